@@ -1,0 +1,16 @@
+-- Document 01 without bytes, in the order in which it is best read. Above the line: the model, from values to runs. Below it: what is promised.
+pub mod Record
+pub mod State
+pub mod Event
+pub mod View
+pub mod Needs
+pub mod Change
+pub mod Serve
+pub mod Step
+-- ----
+pub mod Past
+pub mod Causal
+pub mod Count
+pub mod Influence
+pub mod Marked
+pub mod Promises

@@ -1,0 +1,73 @@
+-- "The protocol's steps": what each event answers and changes where all that it needs holds. Assumes nothing.
+use Prim.Native.Nat.{ℕ}
+use mathlib.Core.Bool.{Bool, true, false, cond, _||_}
+use mathlib.Core.List.{List, [], _∷_}
+use mathlib.Core.Option.{Option}
+use lib.Dec.{eqb}
+use lib.IntN.{ℤ}
+use Rattle.vector.specs.Vec.{Vec, zeros, larger, withEntry}
+use Rattle.protocol.specs.Record.{partOf, Rec, Msg, Update, Beat, newest, ofKey, fitsPage, raisedBy}
+use Rattle.protocol.specs.State.{Mark, Page, Session, noPage, closed, opened}
+use Rattle.protocol.specs.Event.{Event, OPEN, CLOSE, CLOCK, GET, PUT, BEGIN, READ, END, BEAT, DELIVER, Answer, Done, Stamped, shown}
+use Rattle.protocol.specs.View.{View}
+use Rattle.protocol.specs.Needs.{beatSends}
+use Rattle.protocol.specs.Change.{Change, SetSession, SetClock, Publish, Receive}
+
+infix 10 _and_
+pub record Outcome : Type 0 where
+  pub says : Answer
+  pub changes : List Change
+
+abbrev pub _and_ : Answer → List Change → Outcome
+a and cs = record { says = a; changes = cs }
+
+-- "The record carries the session's vector as it was before"
+unfoldable pub written : Session → (k q : ℕ) (l : ℤ) (t : ℕ) → Rec
+written x k q l t = record { id = record { key = k; source = x .site; stamp = t }; quality = q; level = l; carried = x .vec }
+
+unfoldable pub unread : List ℕ → List Mark
+unread [] = []
+unread (k ∷ ks) = record { key = k; read = false } ∷ unread ks
+
+unfoldable pub markRead : ℕ → List Mark → List Mark
+markRead k [] = []
+markRead k (m ∷ ms) = record { key = m .key; read = m .read || eqb (m .key) k } ∷ markRead k ms
+
+-- the coordinator's vector is the named partition's node's
+unfoldable pub begun : (coordinator session : Vec) → List ℕ → Page
+begun coordinator session ks = record { isOpen = true; vec = larger coordinator session; marks = unread ks; gathered = zeros }
+
+unfoldable pub readOn : Page → (k : ℕ) → Option Rec → Page
+readOn g k o = record { isOpen = true; vec = g .vec; marks = markRead k (g .marks); gathered = raisedBy (g .gathered) o }
+
+unfoldable pub taken : (i m p : ℕ) → List Msg → List Change
+taken i m p [] = []
+taken i m p (x ∷ l) = Receive i m p x ∷ []
+
+unfoldable pub serve : View → Event → Outcome
+serve v (OPEN s m) = Done and SetSession s (opened m zeros noPage) ∷ []
+serve v (CLOSE s) = Done and SetSession s closed ∷ []
+serve v (CLOCK m p t) = Done and SetClock m p t ∷ []
+serve v (GET s k) =
+    let x = v .session in
+    let o = newest (v .setting) (ofKey k) (v .store (partOf (v .setting) k)) in
+    shown o and SetSession s (opened (x .site) (raisedBy (x .vec) o) (x .page)) ∷ []
+serve v (PUT s k q l) =
+    let x = v .session in
+    let p = partOf (v .setting) k in
+    let t = v .clock p in
+    Stamped (x .site) t and
+    Publish (x .site) p (Update (written x k q l t)) ∷
+    SetSession s (opened (x .site) (withEntry (x .vec) (x .site) t) (x .page)) ∷ []
+serve v (BEGIN s p ks) =
+    let x = v .session in
+    Done and SetSession s (opened (x .site) (x .vec) (begun (v .heard p) (x .vec) ks)) ∷ []
+serve v (READ s k) =
+    let x = v .session in
+    let o = newest (v .setting) (fitsPage k (x .page .vec)) (v .store (partOf (v .setting) k)) in
+    shown o and SetSession s (opened (x .site) (x .vec) (readOn (x .page) k o)) ∷ []
+serve v (END s) =
+    let x = v .session in
+    Done and SetSession s (opened (x .site) (larger (x .vec) (x .page .gathered)) noPage) ∷ []
+serve v (BEAT m p) = Done and cond (beatSends (v .heard p m) (v .clock p)) (Publish m p (Beat (v .clock p)) ∷ []) []
+serve v (DELIVER i m p) = Done and taken i m p (v .front)
