@@ -1,0 +1,10 @@
+-- From the laws of the parts, by the invariant and its two halves, to the promises; then what is shown by closed runs.
+pub mod Order
+pub mod Judge
+pub mod Invariant
+pub mod Network
+-- pub mod Sessions
+-- pub mod Causal
+-- pub mod Conserve
+-- pub mod Influence
+-- pub mod Marked
