@@ -3,8 +3,9 @@ pub mod Order
 pub mod Judge
 pub mod Invariant
 pub mod Network
--- pub mod Sessions
--- pub mod Causal
--- pub mod Conserve
--- pub mod Influence
--- pub mod Marked
+pub mod Sessions
+pub mod Setting
+pub mod Causal
+pub mod Conserve
+pub mod Influence
+pub mod Marked

@@ -41,11 +41,11 @@ delivers N i m p (BEGIN s q ks) = false
 delivers N i m p (READ s k) = false
 delivers N i m p (END s) = false
 delivers N i m p (BEAT j q) = false
-delivers N i m p (DELIVER h j q) = at j q m p && (eqb i h && frontUpdates (N .chan h j q))
+delivers N i m p (DELIVER h j q) = (at j q m p && eqb i h) && frontUpdates (N .chan h j q)
 
 -- 1 for an event of the kind that is served
 unfoldable pub one : Bool → Answer → ℕ
-one b a = cond (b && served a) 1 0
+one b a = cond (served a && b) 1 0
 
 unfoldable pub accepted : (i p : ℕ) → State → List Event → ℕ
 accepted i p S [] = 0
