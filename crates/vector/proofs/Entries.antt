@@ -1,5 +1,6 @@
 -- The laws of vectors as lists and as bytes. In order: lists of n entries; vectors and their lists of `width` entries; the operations look only
--- at the entries below the width; one entry more, as the code counts; bytes of n entries; the bytes of a vector. Assumes nothing.
+-- at the entries below the width; a store of one entry; one entry more, as the code counts; bytes of n entries; the bytes of a vector.
+-- Assumes nothing.
 use mathlib.Core.Path.{_≡_, refl, sym, ap, _∙_, fun-ext}
 use mathlib.Core.Bool.{Bool, true, cond, _&&_}
 use mathlib.Core.List.{List, [], _∷_, _++_}
