@@ -1,12 +1,12 @@
--- A level is a signed number in four bytes, in two's complement: `levelOf` of the four bytes' number, `bitsOf` of the level. The laws are in
+-- A level is a signed number in four bytes, in two's complement: `levelFrom` of the four bytes' number, `bitsOf` of the level. The laws are in
 -- proofs/Level. Assumes nothing.
 use Prim.Native.Nat.{ℕ, _-_, _<_}
-use mathlib.Core.Bool.{Bool, cond}
+use mathlib.Core.Bool.{cond}
 use lib.Dec.{ltb}
 use lib.IntN.{ℤ, pos, negsuc}
 
-unfoldable pub levelOf : ℕ → ℤ
-levelOf b = cond (ltb b 2147483648) (pos b) (negsuc (4294967295 - b))
+unfoldable pub levelFrom : ℕ → ℤ
+levelFrom b = cond (ltb b 2147483648) (pos b) (negsuc (4294967295 - b))
 
 unfoldable pub bitsOf : ℤ → ℕ
 bitsOf (pos n) = n

@@ -12,8 +12,16 @@ pub struct Refusal {
 
 pub enum Answer {
     Done,
-    Stamped { source: u8, stamp: u64 },
-    Value { source: u8, quality: u8, level: i32, stamp: u64 },
+    Stamped {
+        source: u8,
+        stamp: u64,
+    },
+    Value {
+        source: u8,
+        quality: u8,
+        level: i32,
+        stamp: u64,
+    },
     Nothing,
     Refused(Refusal),
 }
@@ -23,8 +31,16 @@ pub fn number_of(a: Answer) -> u8
 {
     match a {
         Answer::Done => 0,
-        Answer::Stamped { source: _, stamp: _ } => 0,
-        Answer::Value { source: _, quality: _, level: _, stamp: _ } => 1,
+        Answer::Stamped {
+            source: _,
+            stamp: _,
+        } => 0,
+        Answer::Value {
+            source: _,
+            quality: _,
+            level: _,
+            stamp: _,
+        } => 1,
         Answer::Nothing => 2,
         Answer::Refused(w) => w.number,
     }
@@ -36,7 +52,12 @@ pub fn source_of(a: Answer) -> u8
     match a {
         Answer::Done => 0,
         Answer::Stamped { source, stamp: _ } => source,
-        Answer::Value { source, quality: _, level: _, stamp: _ } => source,
+        Answer::Value {
+            source,
+            quality: _,
+            level: _,
+            stamp: _,
+        } => source,
         Answer::Nothing => 0,
         Answer::Refused(w) => w.source,
     }
@@ -46,9 +67,17 @@ pub fn quality_of(a: Answer) -> u8
     ensures { λ r. ⌜ r ≡ qualityOf a ⌝ }
 {
     match a {
-        Answer::Value { source: _, quality, level: _, stamp: _ } => quality,
+        Answer::Value {
+            source: _,
+            quality,
+            level: _,
+            stamp: _,
+        } => quality,
         Answer::Done => 0,
-        Answer::Stamped { source: _, stamp: _ } => 0,
+        Answer::Stamped {
+            source: _,
+            stamp: _,
+        } => 0,
         Answer::Nothing => 0,
         Answer::Refused(_) => 0,
     }
@@ -58,9 +87,17 @@ pub fn level_of(a: Answer) -> i32
     ensures { λ r. ⌜ r ≡ levelOf a ⌝ }
 {
     match a {
-        Answer::Value { source: _, quality: _, level, stamp: _ } => level,
+        Answer::Value {
+            source: _,
+            quality: _,
+            level,
+            stamp: _,
+        } => level,
         Answer::Done => 0,
-        Answer::Stamped { source: _, stamp: _ } => 0,
+        Answer::Stamped {
+            source: _,
+            stamp: _,
+        } => 0,
         Answer::Nothing => 0,
         Answer::Refused(_) => 0,
     }
@@ -72,7 +109,12 @@ pub fn stamp_of(a: Answer) -> u64
     match a {
         Answer::Done => 0,
         Answer::Stamped { source: _, stamp } => stamp,
-        Answer::Value { source: _, quality: _, level: _, stamp } => stamp,
+        Answer::Value {
+            source: _,
+            quality: _,
+            level: _,
+            stamp,
+        } => stamp,
         Answer::Nothing => 0,
         Answer::Refused(w) => w.stamp,
     }

@@ -1,0 +1,4 @@
+pub mod Le
+pub mod Level
+pub mod Part
+pub mod Fields
