@@ -1,0 +1,2 @@
+-- Every change keeps lengths.
+pub mod Lengths
