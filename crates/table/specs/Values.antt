@@ -32,7 +32,7 @@ asSession x = record {
   vec = entry (x .vec .e);
   page = record {
     isOpen = x .paged;
-    vec = entry (x .page-vec .e);
+    vec = entry (x .page .e);
     marks = tabulate (x .count) (λ i. record { key = getD (x .keys) i 0; read = getD (x .marks) i false });
     gathered = entry (x .gathered .e);
   };

@@ -32,7 +32,7 @@ pub struct Letter {
     pub carried: Vector,
 }
 
-// A session, and its page: the keys and marks below `count` are in use.
+// A session and its page: `page` is the page's vector, and the keys and marks below `count` are in use.
 pub struct Session {
     pub open: bool,
     pub site: u8,
@@ -41,7 +41,7 @@ pub struct Session {
     pub count: u8,
     pub keys: [u8; 8],
     pub marks: [bool; 8],
-    pub page_vec: Vector,
+    pub page: Vector,
     pub gathered: Vector,
 }
 
