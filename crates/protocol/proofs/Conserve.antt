@@ -9,15 +9,15 @@ use lib.Dec.{T, ltb, eqb, lt→ltb}
 use mir.Facts.{and-yes, eqb-yes}
 use Rattle.vector.proofs.Tests.{cond-elim}
 use Rattle.protocol.specs.Record.{partOf, Rec, Msg, Update, Beat}
-use Rattle.protocol.specs.State.{Net, Session, State, setup}
-use Rattle.protocol.specs.Event.{Event, OPEN, CLOSE, CLOCK, GET, PUT, BEGIN, READ, END, BEAT, DELIVER, Refusal, Refused}
+use Rattle.protocol.specs.State.{Net, State, setup}
+use Rattle.protocol.specs.Event.{Event, OPEN, CLOSE, CLOCK, GET, PUT, BEGIN, READ, END, BEAT, DELIVER, Answer, Refusal, Refused}
 use Rattle.protocol.specs.View.{view, viewAt, place, look}
 use Rattle.protocol.specs.Needs.{beatSends, frontUpdates, ranges, needs}
 use Rattle.protocol.specs.Change.{Change, at, setClock, publish, receive, apply, applyAll}
 use Rattle.protocol.specs.Serve.{Outcome, _and_, written, taken, serve}
 use Rattle.protocol.specs.Step.{decide, step, next, after}
 use Rattle.protocol.specs.Past.{served}
-use Rattle.protocol.specs.Count.{waiting, puts, delivers, one, accepted, delivered}
+use Rattle.protocol.specs.Count.{waiting, puts, delivers, count}
 use Rattle.protocol.specs.Promises.{Conserved}
 use Rattle.protocol.proofs.Judge.{judge-elim}
 use Rattle.protocol.proofs.Setting.{next-setting}
@@ -44,8 +44,11 @@ waiting-front (Beat t) l = omega arith
 
 -- ---- one event
 
+abbrev one : (Net → Event → Answer → Bool) → Net → Event → Answer → ℕ
+one kind N e a = cond (served a && kind N e a) 1 0
+
 abbrev Balance : State → (i m p : ℕ) → Event → Outcome → Type 0
-Balance S i m p e o = waiting (applyAll (o .changes) S .net .chan i m p) + one (delivers (S .net) i m p e) (o .says) ≡ waiting (S .net .chan i m p) + one (puts (S .net) i p e (o .says)) (o .says)
+Balance S i m p e o = waiting (applyAll (o .changes) S .net .chan i m p) + one (delivers i m p) (S .net) e (o .says) ≡ waiting (S .net .chan i m p) + one (puts i p) (S .net) e (o .says)
 
 module _ (i m p : ℕ) (apart : i ≢ m) where
   put-balance : (N : Net) (r : Rec) → m < N .setting .sites →
@@ -91,7 +94,7 @@ module _ (i m p : ℕ) (apart : i ≢ m) where
       go false f = refl
 
   serve-balance : (S : State) (e : Event) → m < S .net .setting .sites → Balance S i m p e (serve (view S e) e)
-  unfolding serve view viewAt place look apply applyAll setClock puts delivers one served written
+  unfolding serve view viewAt place look apply applyAll setClock puts delivers served written
   serve-balance S (OPEN s j) l = refl
   serve-balance S (CLOSE s) l = refl
   serve-balance S (CLOCK j q t) l = refl
@@ -105,7 +108,7 @@ module _ (i m p : ℕ) (apart : i ≢ m) where
   serve-balance S (DELIVER h j q) l = take-balance S h j q (S .net .chan h j q) refl
 
   refused-balance : (S : State) (e : Event) (w : Refusal) → Balance S i m p e (Refused w and [])
-  unfolding one served applyAll
+  unfolding served applyAll
   refused-balance S e w = refl
 
   step-balance : (S : State) (e : Event) → m < S .net .setting .sites → Balance S i m p e (step S e)
@@ -115,8 +118,8 @@ module _ (i m p : ℕ) (apart : i ≢ m) where
   -- ---- many
 
   run-balance : (S : State) (es : List Event) → m < S .net .setting .sites →
-      waiting (after S es .net .chan i m p) + delivered i m p S es ≡ waiting (S .net .chan i m p) + accepted i p S es
-  unfolding after accepted delivered next
+      waiting (after S es .net .chan i m p) + count (delivers i m p) S es ≡ waiting (S .net .chan i m p) + count (puts i p) S es
+  unfolding after count next
   run-balance S [] l = refl
   run-balance S (e ∷ es) l =
       let a = step-balance S e l in

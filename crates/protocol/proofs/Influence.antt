@@ -1,19 +1,17 @@
 -- What may influence a step, and that a refusal changes nothing: both by the shape of a step. Assumes nothing.
 use Prim.Native.Nat.{ℕ}
-use native.Mathlib.Omega.{arith}
 use mathlib.Core.Path.{_≡_, refl, ap, _∙_}
 use mathlib.Core.List.{List, [], _++_}
 use mathlib.Core.Option.{Option, some, none}
 use Rattle.protocol.specs.Record.{Rec, Msg}
 use Rattle.protocol.specs.State.{Net, Session, State, closed}
-use Rattle.protocol.specs.Event.{Event, OPEN, CLOSE, CLOCK, GET, PUT, BEGIN, READ, END, BEAT, DELIVER, Answer, Done, Stamped, Value, Nothing, Refusal, Refused, shown}
+use Rattle.protocol.specs.Event.{Event, OPEN, CLOSE, CLOCK, GET, PUT, BEGIN, READ, END, BEAT, DELIVER, Answer, Done, Stamped, Value, Nothing, Refused, shown}
 use Rattle.protocol.specs.View.{Place, ofSession, atSite, onChannel, View, look, viewAt, view, place}
 use Rattle.protocol.specs.Needs.{ranges, needs}
 use Rattle.protocol.specs.Change.{applyAll}
-use Rattle.protocol.specs.Serve.{Outcome, serve}
+use Rattle.protocol.specs.Serve.{serve}
 use Rattle.protocol.specs.Step.{decide, step, next}
-use Rattle.protocol.specs.Influence.{SiteAlike, Alike}
-use Rattle.protocol.specs.Promises.{Influenced, Untouched}
+use Rattle.protocol.specs.Promises.{SiteAlike, Alike, Influenced, Untouched}
 use Rattle.protocol.proofs.Judge.{judge-elim}
 
 -- ---- a step sees its view alone

@@ -5,7 +5,10 @@ pub mod Invariant
 pub mod Network
 pub mod Sessions
 pub mod Setting
+pub mod Steps
 pub mod Causal
 pub mod Conserve
 pub mod Influence
+pub mod Runs
 pub mod Marked
+pub mod Traps

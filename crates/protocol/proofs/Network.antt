@@ -14,7 +14,7 @@ use Rattle.protocol.specs.Record.{partOf, Rec, Msg, Update, Beat, stampI
 use Rattle.protocol.specs.State.{Net}
 use Rattle.protocol.specs.Change.{at, setClock, publish, receive}
 use Rattle.protocol.specs.Past.{_∈_}
-use Rattle.protocol.proofs.Invariant.{Ascending, ascending-le, ascending-up, ascending-snoc, ascending-still, home, Bound, NetInv, Later}
+use Rattle.protocol.proofs.Invariant.{Ascending, ascending-up, ascending-snoc, ascending-still, home, Bound, NetInv, Later}
 
 -- ---- places
 

@@ -9,19 +9,19 @@ use mathlib.Core.List.{List, [], _∷_, _++_, List·Memᴰ·head, List·Memᴰ·
 use mathlib.Core.Option.{Option, some, none}
 use lib.Dec.{T, eqb}
 use mir.Facts.{T-not, and-yes, yes-and, eqb-yes}
-use Rattle.vector.specs.Vec.{Vec, width, zeros, atMost, larger, raised}
+use Rattle.vector.specs.Vec.{Vec, width, atMost, larger, raised}
 use Rattle.vector.proofs.Tests.{cond-elim, yes-eqb}
-use Rattle.vector.proofs.Vec.{LeV, le-trans, at-most-le, le-at-most, at-most-but-le, larger-left, larger-right, raised-up, raised-carried, raised-stamp}
+use Rattle.vector.proofs.Vec.{LeV, le-trans, at-most-le, le-at-most, at-most-but-le, larger-left, larger-right, raised-carried, raised-stamp}
 use Rattle.protocol.specs.Record.{Setting, partOf, Id, Rec, newest, ofKey, fitsPage, raisedBy}
-use Rattle.protocol.specs.State.{Net, Page, Session, noPage, opened}
-use Rattle.protocol.specs.Event.{Answer, shown, qualityOf, levelOf}
+use Rattle.protocol.specs.State.{Net, Session, noPage, opened}
+use Rattle.protocol.specs.Event.{Answer, shown}
 use Rattle.protocol.specs.Needs.{getReady, readReady}
 use Rattle.protocol.specs.Change.{upd}
 use Rattle.protocol.specs.Serve.{begun, readOn}
 use Rattle.protocol.specs.Past.{_∈_, Write, Entry, Story, shownIn, shownOn, sameId, writerPast, withPasts}
 use Rattle.protocol.specs.Causal.{NoOlder, Covers, CoversAll}
 use Rattle.protocol.proofs.Order.{NewestOf, newest-is, raised-by-up}
-use Rattle.protocol.proofs.Invariant.{ascending-le, NetInv, heard-stored, Below, AllBelow, Shows, EntryInv, PageInv, SessionInv, WriteInv, Later}
+use Rattle.protocol.proofs.Invariant.{ascending-le, NetInv, heard-stored, Below, AllBelow, Shows, EntryInv, SessionInv, WriteInv, Later}
 
 -- ---- what a vector answers for
 

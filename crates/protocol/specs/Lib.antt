@@ -11,6 +11,4 @@ pub mod Step
 pub mod Past
 pub mod Causal
 pub mod Count
-pub mod Influence
-pub mod Marked
 pub mod Promises

@@ -1,6 +1,6 @@
 -- What each event needs, from top to bottom as in "Numbers given back", and the number given where it fails. 3 is a wait.
 -- 23, 24, 10 and the unused fields of 11 are about bytes and stand around the model. Assumes nothing.
-use Prim.Native.Nat.{ℕ, zero, suc, _^_, max}
+use Prim.Native.Nat.{ℕ, _^_, max}
 use mathlib.Core.Bool.{Bool, true, false, not, _&&_, _||_}
 use mathlib.Core.List.{List, [], _∷_}
 use lib.ListN.{length}

@@ -3,16 +3,16 @@ use Prim.Native.Nat.{ℕ, _+_, _≤_, _<_}
 use mathlib.Core.Path.{_≡_}
 use mathlib.Core.Logic.{_≢_}
 use mathlib.Core.List.{List}
+use lib.ListN.{length}
 use Rattle.vector.specs.Vec.{width}
 use Rattle.protocol.specs.Record.{Setting}
-use Rattle.protocol.specs.State.{State, setup}
+use Rattle.protocol.specs.State.{Net, State, setup}
 use Rattle.protocol.specs.Event.{Event, GET, Refusal, Refused}
-use Rattle.protocol.specs.View.{place}
+use Rattle.protocol.specs.View.{Place, ofSession, atSite, onChannel, place}
 use Rattle.protocol.specs.Step.{step, next, after, log}
 use Rattle.protocol.specs.Past.{history}
 use Rattle.protocol.specs.Causal.{GetCausal, PageCausal}
-use Rattle.protocol.specs.Count.{accepted, delivered, waiting}
-use Rattle.protocol.specs.Influence.{Alike}
+use Rattle.protocol.specs.Count.{waiting, puts, delivers, count}
 
 -- DEMAND 3, after any events: of a GET that comes next, and of every page as far as it has come
 abbrev pub CausalGet : Type 0
@@ -25,9 +25,22 @@ CausalPage = (c : Setting) → c .sites ≤ width → (es : List Event) (s : ℕ
 -- CONSERVATION on the channel from site i to site m at partition p: accepted at the sender are those delivered and those waiting
 abbrev pub Conserved : Type 0
 Conserved = (c : Setting) (es : List Event) (i m p : ℕ) → i ≢ m → m < c .sites →
-    accepted i p (setup c) es ≡ delivered i m p (setup c) es + waiting (after (setup c) es .net .chan i m p)
+    count (puts i p) (setup c) es ≡ count (delivers i m p) (setup c) es + waiting (after (setup c) es .net .chan i m p)
 
--- INFLUENCE: the answer and the changes
+-- INFLUENCE. Two networks are alike in the constants, the nodes of site m, and how full their outgoing channels are
+pub record SiteAlike (N M : Net) (m : ℕ) : Type 0 where
+  pub setting : N .setting ≡ M .setting
+  pub clock : (p : ℕ) → N .clock m p ≡ M .clock m p
+  pub heard : (p i : ℕ) → N .heard m p i ≡ M .heard m p i
+  pub store : (p : ℕ) → N .store m p ≡ M .store m p
+  pub sent : (p j : ℕ) → length (N .chan m j p) ≡ length (M .chan m j p)
+
+unfoldable pub Alike : State → State → Place → Type 0
+Alike S R (ofSession s) = (S .session s ≡ R .session s) × SiteAlike (S .net) (R .net) (S .session s .site)
+Alike S R (atSite m) = SiteAlike (S .net) (R .net) m
+Alike S R (onChannel i m p) = SiteAlike (S .net) (R .net) m × (S .net .chan i m p ≡ R .net .chan i m p)
+
+-- the answer and the changes are then the same
 abbrev pub Influenced : Type 0
 Influenced = (S R : State) (e : Event) → Alike S R (place e) → step S e ≡ step R e
 

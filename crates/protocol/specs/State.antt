@@ -1,7 +1,7 @@
 -- What the archive holds: sessions, nodes and channels; and what a fresh setup holds. Assumes nothing.
 use Prim.Native.Nat.{ℕ}
 use mathlib.Core.Bool.{Bool, true, false}
-use mathlib.Core.List.{List, [], _∷_}
+use mathlib.Core.List.{List, []}
 use Rattle.vector.specs.Vec.{Vec, zeros}
 use Rattle.protocol.specs.Record.{Setting, Rec, Msg}
 

@@ -1,7 +1,7 @@
 -- The laws of vectors as lists and as bytes. In order: lists of n entries; vectors and their lists of `width` entries; the operations look only
 -- at the entries below the width; a store of one entry; one entry more, as the code counts; bytes of n entries; the bytes of a vector.
 -- Assumes nothing.
-use mathlib.Core.Path.{_≡_, refl, sym, ap, _∙_, fun-ext}
+use mathlib.Core.Path.{_≡_, refl, sym, _∙_, fun-ext}
 use mathlib.Core.Bool.{Bool, true, cond, _&&_}
 use mathlib.Core.List.{List, [], _∷_, _++_}
 use Prim.Native.Nat.{ℕ, zero, suc, _+_, _*_, max, _≤_, _<_}

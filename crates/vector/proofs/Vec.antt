@@ -5,7 +5,7 @@ use native.Mathlib.Decide.{decLt}
 use native.Mathlib.Omega.{arith}
 use mathlib.Core.Path.{_≡_, sym, subst}
 use mathlib.Core.Logic.{_⊎_, inl, inr, ⊎-elim}
-use mathlib.Core.Bool.{Bool, not, _||_}
+use mathlib.Core.Bool.{Bool, _||_}
 use lib.Dec.{T, leb, eqb, le→leb, eqb-refl}
 use mir.Facts.{T-not, and-yes, yes-and, or-yes, leb-yes, eqb-yes}
 use Rattle.vector.specs.Vec.{Vec, width, zeros, allBelow, atMost, atMostBut, largestOf, largest, withEntry, atLeast, larger, raised}

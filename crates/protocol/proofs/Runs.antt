@@ -1,0 +1,142 @@
+-- Document 01's bench lines, and a page with its refusals, computed by the checker. Assumes nothing.
+use Prim.Native.Nat.{ℕ}
+use mathlib.Core.Path.{_≡_, refl}
+use mathlib.Core.List.{List, [], _∷_}
+use lib.IntN.{pos, negsuc}
+use Rattle.vector.specs.Vec.{width, zeros, allBelow, atMost, atMostBut, largestOf, largest, withEntry, atLeast, larger, raised}
+use Rattle.protocol.specs.Record.{partOf, stampIn, recordsIn, rank, newer, newerOf, newest, ofKey, fitsPage, raisedBy}
+use Rattle.protocol.specs.State.{noPage, closed, opened, setup}
+use Rattle.protocol.specs.Event.{Event, OPEN, CLOSE, CLOCK, GET, PUT, BEGIN, READ, END, BEAT, DELIVER, Answer, Done, Stamped, Value, Refused, plain, shown}
+use Rattle.protocol.specs.View.{place, look, viewAt, view}
+use Rattle.protocol.specs.Needs.{levelLawful, keysLawful, ranges, getReady, putReady, readReady, beatSends, storeRoom, sendRoom, isEmpty, frontUpdates, holdsKey, distinct, awaited, allRead, needs}
+use Rattle.protocol.specs.Change.{upd, at, setClock, publish, receive, apply, applyAll}
+use Rattle.protocol.specs.Serve.{written, unread, markRead, begun, readOn, taken, serve}
+use Rattle.protocol.specs.Step.{judge, decide, step, next, Line, log}
+
+unfoldable pub answers : List Line → List Answer
+answers [] = []
+answers (l ∷ ls) = l .says ∷ answers ls
+
+-- a proof that unfolds this lets the checker compute whole runs
+unfoldable pub computing : Unit {0}
+unfolding answers log step decide judge next serve needs ranges width zeros allBelow atMost atMostBut largestOf largest withEntry atLeast larger raised partOf stampIn recordsIn rank newer newerOf newest ofKey fitsPage raisedBy noPage closed opened setup plain shown place look viewAt view levelLawful keysLawful getReady putReady readReady beatSends storeRoom sendRoom isEmpty frontUpdates holdsKey distinct awaited allRead upd at setClock publish receive apply applyAll written unread markRead begun readOn taken
+computing = tt
+
+abbrev pub refused : ℕ → Answer
+refused n = Refused (plain n)
+
+-- ---- the bench
+
+benchEvents : List Event
+benchEvents =
+    OPEN 0 0
+    ∷ OPEN 1 1
+    ∷ CLOCK 0 0 100
+    ∷ PUT 0 4 0 (pos 1250)
+    ∷ CLOCK 0 1 100
+    ∷ PUT 0 5 1 (negsuc 29)
+    ∷ CLOCK 0 1 101
+    ∷ PUT 0 5 1 (negsuc 29)
+    ∷ DELIVER 0 1 1
+    ∷ GET 1 5
+    ∷ GET 1 4
+    ∷ DELIVER 0 1 0
+    ∷ GET 1 4
+    ∷ CLOCK 0 0 101
+    ∷ BEAT 0 0
+    ∷ DELIVER 0 1 0
+    ∷ GET 1 4
+    ∷ []
+
+benchAnswers : List Answer
+benchAnswers =
+    Done
+    ∷ Done
+    ∷ Done
+    ∷ Stamped 0 100
+    ∷ Done
+    ∷ refused 3
+    ∷ Done
+    ∷ Stamped 0 101
+    ∷ Done
+    ∷ Value 0 1 (negsuc 29) 101
+    ∷ refused 3
+    ∷ Done
+    ∷ refused 3
+    ∷ Done
+    ∷ Done
+    ∷ Done
+    ∷ Value 0 0 (pos 1250) 100
+    ∷ []
+
+bench : answers (log (setup (record { sites = 4; parts = 4 })) benchEvents) ≡ benchAnswers
+unfolding computing benchEvents benchAnswers
+bench = refl
+
+-- ---- a page, and every refusal of the model but 21 and 22
+
+pageEvents : List Event
+pageEvents =
+    OPEN 0 0
+    ∷ OPEN 1 0
+    ∷ OPEN 1 0
+    ∷ CLOCK 0 0 10
+    ∷ CLOCK 0 1 20
+    ∷ PUT 0 0 0 (pos 5)
+    ∷ PUT 0 1 0 (pos 1000001)
+    ∷ PUT 0 1 0 (pos 6)
+    ∷ READ 1 0
+    ∷ BEGIN 1 0 (0 ∷ 0 ∷ [])
+    ∷ BEGIN 1 0 (0 ∷ 64 ∷ [])
+    ∷ BEGIN 1 0 []
+    ∷ BEGIN 1 0 (0 ∷ 1 ∷ [])
+    ∷ GET 1 0
+    ∷ READ 1 0
+    ∷ END 1
+    ∷ READ 1 2
+    ∷ READ 1 1
+    ∷ READ 1 1
+    ∷ END 1
+    ∷ END 1
+    ∷ CLOCK 0 0 9
+    ∷ DELIVER 0 1 1
+    ∷ DELIVER 0 1 1
+    ∷ DELIVER 0 0 1
+    ∷ CLOSE 1
+    ∷ GET 1 0
+    ∷ []
+
+pageAnswers : List Answer
+pageAnswers =
+    Done
+    ∷ Done
+    ∷ refused 13
+    ∷ Done
+    ∷ Done
+    ∷ Stamped 0 10
+    ∷ refused 11
+    ∷ Stamped 0 20
+    ∷ refused 15
+    ∷ refused 17
+    ∷ refused 11
+    ∷ refused 11
+    ∷ Done
+    ∷ refused 14
+    ∷ Value 0 0 (pos 5) 10
+    ∷ refused 18
+    ∷ refused 16
+    ∷ Value 0 0 (pos 6) 20
+    ∷ refused 16
+    ∷ Done
+    ∷ refused 15
+    ∷ refused 19
+    ∷ Done
+    ∷ refused 20
+    ∷ refused 11
+    ∷ Done
+    ∷ refused 12
+    ∷ []
+
+page : answers (log (setup (record { sites = 2; parts = 2 })) pageEvents) ≡ pageAnswers
+unfolding computing pageEvents pageAnswers
+page = refl
