@@ -1,5 +1,5 @@
--- The order of records and the search for the newest. The rules to use: `no-older-refl`, `no-older-trans`, `newer-no-older`, and `newest-is`, which
--- says of any test what the search finds. Nobody above looks into `newer`, `rank` or `newest`. Assumes nothing.
+-- The order of records and the search for the newest. The rules to use: `no-older-refl`, `no-older-trans`, `newer-trans`, `newer-no-older`, and
+-- `newest-is`, which says of any test what the search finds. Nobody above looks into `newer` or `rank`. Assumes nothing.
 use Prim.Native.Nat.{ℕ, _≤_, _<_}
 use native.Mathlib.Decide.{decLt}
 use native.Mathlib.Omega.{arith}
@@ -8,10 +8,10 @@ use mathlib.Core.Logic.{_⊎_, inl, inr}
 use mathlib.Core.Bool.{Bool, not, _&&_, _||_}
 use mathlib.Core.List.{List, [], _∷_, List·Memᴰ·head, List·Memᴰ·tail, List·Memᴰ·cases-cons, List·Memᴰ·not-nil}
 use mathlib.Core.Option.{Option, some, none}
-use lib.Dec.{T, ltb, eqb}
-use mir.Facts.{T-not, not-T, and-yes, and-no, or-yes, or-no, ltb-yes, ltb-no, eqb-yes}
+use lib.Dec.{T, ltb, eqb, lt→ltb}
+use mir.Facts.{T-not, not-T, and-yes, yes-and, and-no, or-yes, or-no, ltb-yes, ltb-no, eqb-yes}
 use Rattle.vector.specs.Vec.{Vec}
-use Rattle.vector.proofs.Tests.{cond-elim, yes-eqb}
+use Rattle.vector.proofs.Tests.{cond-elim, yes-or-l, yes-or-r, yes-eqb}
 use Rattle.vector.proofs.Vec.{LeV, le-refl, raised-up}
 use Rattle.protocol.specs.Record.{Setting, Id, Rec, rank, newer, newerOf, newest, raisedBy}
 use Rattle.protocol.specs.Past.{_∈_}
@@ -79,6 +79,31 @@ module _ (c : Setting) where
           let k = and-yes (eqb (y .stamp) (x .stamp)) (ltb (rankOf y) (rankOf x)) b in
           let l : rankOf y < rankOf x = ltb-yes (k .1) in
           inr (eqb-yes (k .0), omega arith)
+
+  pub newer-trans : (x y z : Id) → T (newer c x y) → T (newer c y z) → T (newer c x z)
+  unfolding newer
+  newer-trans x y z a b = go (or-yes (above x y) (level x y) a) (or-yes (above y z) (level y z) b)
+    where
+      above : Id → Id → Bool
+      above u v = ltb (v .stamp) (u .stamp)
+
+      level : Id → Id → Bool
+      level u v = eqb (v .stamp) (u .stamp) && ltb (rankOf v) (rankOf u)
+
+      by-stamp : z .stamp < x .stamp → T (newer c x z)
+      by-stamp l = yes-or-l (above x z) (level x z) (lt→ltb (z .stamp) (x .stamp) l)
+
+      by-rank : z .stamp ≡ x .stamp → rankOf z < rankOf x → T (newer c x z)
+      by-rank e l = yes-or-r (above x z) (level x z) (yes-and (eqb (z .stamp) (x .stamp)) (ltb (rankOf z) (rankOf x)) (yes-eqb (z .stamp) (x .stamp) e) (lt→ltb (rankOf z) (rankOf x) l))
+
+      split : (u v : Id) → T (level u v) → (v .stamp ≡ u .stamp) × (rankOf v < rankOf u)
+      split u v t = let k = and-yes (eqb (v .stamp) (u .stamp)) (ltb (rankOf v) (rankOf u)) t in (eqb-yes (k .0), ltb-yes (k .1))
+
+      go : T (above x y) ⊎ T (level x y) → T (above y z) ⊎ T (level y z) → T (newer c x z)
+      go (inl s) (inl t) = let k : y .stamp < x .stamp = ltb-yes s in let l : z .stamp < y .stamp = ltb-yes t in by-stamp (omega arith)
+      go (inl s) (inr t) = let k : y .stamp < x .stamp = ltb-yes s in let l = split y z t in by-stamp (omega arith)
+      go (inr s) (inl t) = let k = split x y s in let l : z .stamp < y .stamp = ltb-yes t in by-stamp (omega arith)
+      go (inr s) (inr t) = let k = split x y s in let l = split y z t in by-rank (omega arith) (omega arith)
 
 -- ---- the search
 

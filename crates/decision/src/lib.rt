@@ -1,0 +1,42 @@
+// Decisions: what an event is answered, and what it then changes. They read the table and write nothing.
+use protocol::Answer;
+use table::Message;
+use table::Session;
+use vector::Vector;
+
+// What is then carried out. A delivery holds its message, which is numbers; an update's vector and a session stand beside the effect.
+pub enum Effect {
+    Nothing,
+    Keep {
+        session: u8,
+    },
+    Clock {
+        site: u8,
+        partition: u8,
+        time: u64,
+    },
+    Beat {
+        site: u8,
+        partition: u8,
+        stamp: u64,
+    },
+    Put {
+        session: u8,
+        site: u8,
+        partition: u8,
+        message: Message,
+    },
+    Deliver {
+        from: u8,
+        site: u8,
+        partition: u8,
+        message: Message,
+    },
+}
+
+pub struct Decided {
+    pub answer: Answer,
+    pub effect: Effect,
+    pub carried: Vector,
+    pub session: Session,
+}

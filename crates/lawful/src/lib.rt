@@ -1,0 +1,4 @@
+// The well-formed check.
+pub fn code() -> u8 {
+    24
+}
