@@ -1,2 +1,3 @@
--- Every change keeps lengths.
+-- Every change keeps lengths; the values that the code holds.
 pub mod Lengths
+pub mod Values

@@ -3,6 +3,8 @@
 ghost use mathlib.Core.Path.{_≡_};
 use vector::Vector;
 
+pub mod letters;
+
 // A stored record.
 pub struct Reading {
     pub key: u8,
