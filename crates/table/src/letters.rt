@@ -1,9 +1,10 @@
 // "A record, and an update in transit, is 48 bytes, little-endian": a record and a message at a place of the bytes, read and written.
-// In order: reading, writing. Assumes nothing.
+// In order: reading, a message's stamp, writing. Assumes nothing.
 ghost use mathlib.Core.Path.{_≡_};
 ghost use Prim.Native.Nat.{_+_, _≤_};
 ghost use lib.ListN.{length};
 ghost use Rattle.vector.specs.Entries.{entry};
+ghost use Rattle.protocol.specs.Record.{stampIn};
 ghost use Rattle.table.specs.Letter.{recordAt, messageAt, putFields, putMessage};
 ghost use Rattle.table.specs.Values.{asRecord, asMessage};
 use crate::Letter;
@@ -60,6 +61,22 @@ pub fn load_message(b: &[u8], at: usize) -> Letter
             message,
             carried: Vector::ZERO,
         }
+    }
+}
+
+pub fn stamp(x: Letter) -> u64
+    ensures { λ r. ⌜ r ≡ stampIn (asMessage x) ⌝ }
+{
+    let message = x.message;
+    match message {
+        Message::Update {
+            key: _,
+            source: _,
+            quality: _,
+            level: _,
+            stamp,
+        } => stamp,
+        Message::Heartbeat { stamp } => stamp,
     }
 }
 

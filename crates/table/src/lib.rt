@@ -3,7 +3,9 @@
 ghost use mathlib.Core.Path.{_≡_};
 use vector::Vector;
 
+pub mod channels;
 pub mod letters;
+pub mod nodes;
 
 // A stored record.
 pub struct Reading {
