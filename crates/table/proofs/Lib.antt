@@ -1,2 +1,6 @@
--- Every change keeps lengths.
+-- Every change keeps lengths; the values that the code holds; room for a message; what is lent; a message in a site's channels.
 pub mod Lengths
+pub mod Values
+pub mod Room
+pub mod Lent
+pub mod Sent

@@ -8,3 +8,4 @@ pub mod Session
 pub mod Decode
 pub mod Put
 pub mod Values
+pub mod Room

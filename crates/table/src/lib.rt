@@ -3,6 +3,11 @@
 ghost use mathlib.Core.Path.{_≡_};
 use vector::Vector;
 
+pub mod channels;
+pub mod letters;
+pub mod nodes;
+pub mod sites;
+
 // A stored record.
 pub struct Reading {
     pub key: u8,

@@ -1,0 +1,19 @@
+-- Room for a message stays when what a node has heard changes. Assumes nothing.
+use Prim.Native.Nat.{ℕ, _+_, _*_, _<_}
+use mathlib.Core.Path.{_≡_}
+use mathlib.Core.List.{List}
+use native.Mathlib.Omega.{arith}
+use Rattle.codec.specs.Le.{put}
+use Rattle.codec.proofs.Le.{load-put-other}
+use Rattle.protocol.specs.Record.{Msg, Update, Beat}
+use Rattle.table.specs.Node.{heldIn}
+use Rattle.table.specs.Room.{Room}
+
+held-heard : (n : List ℕ) (m t : ℕ) → m < 4 → heldIn (put 8 n (8 + 8 * m) t) ≡ heldIn n
+unfolding heldIn
+held-heard n m t h = load-put-other 1 8 n (8 + 8 * m) t 40 (λ k a b c d. omega arith)
+
+pub room-heard : (x : Msg) (n : List ℕ) (m t : ℕ) → m < 4 → Room x n → Room x (put 8 n (8 + 8 * m) t)
+unfolding Room
+room-heard (Update r) n m t h room = rw (held-heard n m t h) room
+room-heard (Beat s) n m t h room = tt

@@ -1,0 +1,15 @@
+-- `table::nodes::held` meets its contract, by its one load. Assumes nothing.
+use borrow.Author.Needs.{needs}
+use Rattle.table.specs.Node.{heldIn}
+use Rattle.table.proofs.nodes.held.Statement.{statement}
+use Rattle.table.proofs.nodes.held.Tie as tie
+
+load-u8-requires : tie.Need-load-u8-requires
+load-u8-requires c κs = search needs
+
+returns : tie.Need-returns
+unfolding heldIn
+returns c = search needs
+
+pub held-spec : {M : Type 1} → statement M
+held-spec = tie.close (tie.spec load-u8-requires returns)
