@@ -1,2 +1,4 @@
 -- Every change keeps lengths.
 pub mod Lengths
+pub mod Tabulate
+pub mod Parts

@@ -7,4 +7,5 @@ pub mod Channel
 pub mod Session
 pub mod Decode
 pub mod Put
+pub mod Fits
 pub mod Values
