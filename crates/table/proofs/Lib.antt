@@ -2,3 +2,4 @@
 pub mod Lengths
 pub mod Tabulate
 pub mod Parts
+pub mod Letters
