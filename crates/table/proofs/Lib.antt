@@ -3,3 +3,5 @@ pub mod Lengths
 pub mod Tabulate
 pub mod Parts
 pub mod Letters
+pub mod Nodes
+pub mod Channels
