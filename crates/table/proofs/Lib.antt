@@ -5,3 +5,4 @@ pub mod Parts
 pub mod Letters
 pub mod Nodes
 pub mod Channels
+pub mod Sessions
