@@ -4,3 +4,9 @@ pub mod Values
 pub mod Room
 pub mod Lent
 pub mod Sent
+pub mod Tabulate
+pub mod Parts
+pub mod Letters
+pub mod Nodes
+pub mod Channels
+pub mod Sessions

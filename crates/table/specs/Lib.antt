@@ -7,5 +7,6 @@ pub mod Channel
 pub mod Session
 pub mod Decode
 pub mod Put
+pub mod Fits
 pub mod Values
 pub mod Room

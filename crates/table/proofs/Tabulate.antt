@@ -1,0 +1,42 @@
+-- The laws of a function's first n values. In order: their number, functions that agree, one more behind, and one less in front. The last two are
+-- all that a store's slots and a channel's ring need. Assumes nothing.
+use Prim.Native.Nat.{ℕ, zero, suc, _+_, _-_, _<_}
+use native.Mathlib.Numerals.{add-one}
+use native.Mathlib.Omega.{arith}
+use mathlib.Core.Path.{_≡_, refl, sym, ap, ap₂, subst, _∙_}
+use mathlib.Core.List.{List, [], _∷_, _++_, tail}
+use lib.ListN.{length}
+use Rattle.table.specs.Tabulate.{tabulate}
+
+module _ {ℓ} {A : Type ℓ} where
+  pub tab-length : (n : ℕ) (f : ℕ → A) → length (tabulate n f) ≡ n
+  unfolding tabulate
+  tab-length zero f = refl
+  tab-length (suc n) f = ap suc (tab-length n (λ i. f (suc i)))
+
+  pub tab-ext : (n : ℕ) (f g : ℕ → A) → ((i : ℕ) → i < n → f i ≡ g i) → tabulate n f ≡ tabulate n g
+  unfolding tabulate
+  tab-ext zero f g h = refl
+  tab-ext (suc n) f g h = ap₂ _∷_ (h 0 (omega arith)) (tab-ext n (λ i. f (suc i)) (λ i. g (suc i)) (λ i l. h (suc i) (omega arith)))
+
+  tab-snoc : (n : ℕ) (f : ℕ → A) → tabulate (suc n) f ≡ tabulate n f ++ (f n ∷ [])
+  unfolding tabulate
+  tab-snoc zero f = refl
+  tab-snoc (suc n) f = ap (λ l. f 0 ∷ l) (tab-snoc n (λ i. f (suc i)))
+
+  -- one more behind
+  pub tab-more : (n : ℕ) (f g : ℕ → A) (a : A) → ((i : ℕ) → i < n → g i ≡ f i) → g n ≡ a → tabulate (n + 1) g ≡ tabulate n f ++ (a ∷ [])
+  tab-more n f g a same last =
+      ap (λ (k : ℕ). tabulate k g) (add-one n) ∙ tab-snoc n g ∙ ap₂ (λ (l : List A) (x : A). l ++ (x ∷ [])) (tab-ext n g f same) last
+
+  -- one less in front
+  pub tab-tail : (n : ℕ) (f g : ℕ → A) → ((i : ℕ) → i + 1 < n → g i ≡ f (i + 1)) → tabulate (n - 1) g ≡ tail (tabulate n f)
+  unfolding tabulate
+  tab-tail zero f g h = refl
+  tab-tail (suc n) f g h =
+      let less : suc n - 1 ≡ n = omega arith in
+      ap (λ (k : ℕ). tabulate k g) less ∙ tab-ext n g (λ i. f (suc i)) (λ i l. h i (omega arith) ∙ ap f (add-one i))
+
+  pub tab-none : (f : ℕ → A) → tabulate 0 f ≡ []
+  unfolding tabulate
+  tab-none f = refl

@@ -1,0 +1,81 @@
+-- What must hold of a change so that the bytes say what it makes of the state: its numbers fit their bytes, its places are there, and there is room.
+-- All of it follows from a well-formed table and an event that is served. Assumes nothing.
+use Prim.Native.Nat.{ℕ, _-_, _≤_, _<_}
+use mathlib.Core.Path.{_≡_}
+use mathlib.Core.List.{List, [], _∷_}
+use lib.ListN.{length}
+use Rattle.codec.specs.Le.{load, span, Bytes}
+use Rattle.codec.specs.Level.{FitsLevel}
+use Rattle.vector.specs.Vec.{Vec, width}
+use Rattle.protocol.specs.Record.{Rec, Msg, Update, Beat}
+use Rattle.protocol.specs.State.{Mark, Session}
+use Rattle.protocol.specs.Change.{Change, SetSession, SetClock, Publish, Receive}
+use Rattle.table.specs.Parts.{siteOf, nodeOf, channelOf}
+use Rattle.table.specs.Node.{heldIn}
+use Rattle.table.specs.Channel.{waitIn}
+use Rattle.table.specs.Put.{putChange}
+
+-- ---- a value fits its bytes
+
+pub record FitsVec (v : Vec) : Type 0 where
+  pub below : (i : ℕ) → v i < span 8
+  pub beyond : (i : ℕ) → width ≤ i → v i ≡ 0
+
+pub record FitsRec (r : Rec) : Type 0 where
+  pub key : r .id .key < 256
+  pub source : r .id .source < 256
+  pub stamp : r .id .stamp < span 8
+  pub quality : r .quality < 256
+  pub level : FitsLevel (r .level)
+  pub carried : FitsVec (r .carried)
+
+abbrev pub FitsMsg : Msg → Type 0
+FitsMsg (Update r) = FitsRec r
+FitsMsg (Beat t) = t < span 8
+
+abbrev pub FitsMarks : List Mark → Type 0
+FitsMarks [] = Unit {0}
+FitsMarks (m ∷ ms) = (m .key < 256) × FitsMarks ms
+
+pub record FitsSession (x : Session) : Type 0 where
+  pub site : x .site < 256
+  pub vec : FitsVec (x .vec)
+  pub page : FitsVec (x .page .vec)
+  pub gathered : FitsVec (x .page .gathered)
+  pub count : length (x .page .marks) ≤ 8
+  pub marks : FitsMarks (x .page .marks)
+
+-- ---- a change fits the table
+
+-- an update wants a slot of the node
+abbrev pub RoomFor : Msg → List ℕ → Type 0
+RoomFor (Update r) n = heldIn n < 32
+RoomFor (Beat t) n = Unit {0}
+
+pub record FitsPublish (m p : ℕ) (x : Msg) (t : List ℕ) : Type 0 where
+  pub site : m < load 1 t 0
+  pub sites : load 1 t 0 ≤ 4
+  pub part : p < 4
+  pub msg : FitsMsg x
+  pub room : RoomFor x (nodeOf (siteOf t m) p)
+  pub ways : (d : ℕ) → d < load 1 t 0 - 1 → waitIn (channelOf (siteOf t m) p d) < 8
+
+pub record FitsReceive (i m p : ℕ) (x : Msg) (t : List ℕ) : Type 0 where
+  pub source : i < 4
+  pub site : m < 4
+  pub other : i ≡ m → ⊥
+  pub part : p < 4
+  pub msg : FitsMsg x
+  pub room : RoomFor x (nodeOf (siteOf t m) p)
+  pub bytes : Bytes t
+
+abbrev pub Fits : Change → List ℕ → Type 0
+Fits (SetSession s x) t = (s < 16) × FitsSession x
+Fits (SetClock m p c) t = (m < 4) × (p < 4) × (c < span 8)
+Fits (Publish m p x) t = FitsPublish m p x t
+Fits (Receive i m p x) t = FitsReceive i m p x t
+
+-- each change fits the table that those before it leave
+abbrev pub FitsAll : List Change → List ℕ → Type 0
+FitsAll [] t = Unit {0}
+FitsAll (c ∷ cs) t = Fits c t × FitsAll cs (putChange c t)
