@@ -8,8 +8,11 @@ use native.Mathlib.Decide.{decLt}
 use native.Mathlib.Omega.{arith}
 use lib.Dec.{T, leb, ltb, le→leb}
 use lib.ListN.{length, getD}
+use lib.Seq.{ext-getD}
 use mir.Facts.{or-yes, leb-yes}
 use Rattle.vector.specs.Vec.{allBelow}
+use Rattle.vector.specs.Entries.{entry}
+use Rattle.vector.proofs.Entries.{Agree}
 use Rattle.vector.proofs.Vec.{all-below-at, all-below}
 use Rattle.vector.proofs.Tests.{yes-or-l, yes-or-r}
 use Rattle.protocol.specs.Needs.{keysLawful}
@@ -18,21 +21,28 @@ use Rattle.event.proofs.Tests.{same-tests, allBelow-front}
 
 -- ---- a tabulated list
 
-pub length-tabulate : (n : ℕ) (f : ℕ → ℕ) → length (tabulate n f) ≡ n
-unfolding tabulate
-length-tabulate zero f = refl
-length-tabulate (suc n) f = ap suc (length-tabulate n (λ i. f (suc i)))
+module _ {A : Type 0} where
+  pub length-tabulate : (n : ℕ) (f : ℕ → A) → length (tabulate n f) ≡ n
+  unfolding tabulate
+  length-tabulate zero f = refl
+  length-tabulate (suc n) f = ap suc (length-tabulate n (λ i. f (suc i)))
 
-pub getD-tabulate : (n : ℕ) (f : ℕ → ℕ) (i : ℕ) → i < n → getD (tabulate n f) i 0 ≡ f i
-unfolding tabulate
-getD-tabulate zero f i h = absurd (omega arith)
-getD-tabulate (suc n) f zero h = refl
-getD-tabulate (suc n) f (suc i) h = getD-tabulate n (λ i. f (suc i)) i (omega arith)
+  pub getD-tabulate : (n : ℕ) (f : ℕ → A) (d : A) (i : ℕ) → i < n → getD (tabulate n f) i d ≡ f i
+  unfolding tabulate
+  getD-tabulate zero f d i h = absurd (omega arith)
+  getD-tabulate (suc n) f d zero h = refl
+  getD-tabulate (suc n) f d (suc i) h = getD-tabulate n (λ i. f (suc i)) d i (omega arith)
 
-pub tabulate-ext : (n : ℕ) (f g : ℕ → ℕ) → ((i : ℕ) → i < n → f i ≡ g i) → tabulate n f ≡ tabulate n g
-unfolding tabulate
-tabulate-ext zero f g h = refl
-tabulate-ext (suc n) f g h = rw (h 0 (omega arith), tabulate-ext n (λ i. f (suc i)) (λ i. g (suc i)) (λ i l. h (suc i) (omega arith)))
+  pub tabulate-ext : (n : ℕ) (f g : ℕ → A) → ((i : ℕ) → i < n → f i ≡ g i) → tabulate n f ≡ tabulate n g
+  unfolding tabulate
+  tabulate-ext zero f g h = refl
+  tabulate-ext (suc n) f g h = rw (h 0 (omega arith), tabulate-ext n (λ i. f (suc i)) (λ i. g (suc i)) (λ i l. h (suc i) (omega arith)))
+
+-- a list of n numbers that are f's is the one tabulated
+pub tabulate-is : (n : ℕ) (f : ℕ → ℕ) (l : List ℕ) → length l ≡ n → Agree n (entry l) f → l ≡ tabulate n f
+unfolding entry
+tabulate-is n f l q h =
+    ext-getD 0 l (tabulate n f) (q ∙ sym (length-tabulate n f)) (λ i b. h i (omega arith) ∙ sym (getD-tabulate n f 0 i (omega arith)))
 
 -- ---- lawful keys
 

@@ -28,7 +28,7 @@ unfolding keysBelow keysOf
 keysBelow-lawful e h =
     let n = load 1 e 7 in
     let f : ℕ → ℕ = λ i. load 1 e (20 + i) in
-    allBelow-ext 8 _ _ (λ i b. rw (getD-tabulate 8 f i b)) ∙ below-count 8 n (λ i. ltb (f i) 64) h ∙ sym (keysLawful-tabulate n f)
+    allBelow-ext 8 _ _ (λ i b. rw (getD-tabulate 8 f 0 i b)) ∙ below-count 8 n (λ i. ltb (f i) 64) h ∙ sym (keysLawful-tabulate n f)
 
 count-keys : (e : List ℕ)
     → (leb (load 1 e 7) 8 && keysBelow (tabulate 8 (λ i. load 1 e (20 + i))) (load 1 e 7)) ≡ (leb (load 1 e 7) 8 && keysLawful (keysOf e))
