@@ -5,7 +5,7 @@ ghost use mathlib.Core.Bool.{true, _&&_};
 ghost use Prim.Native.Nat.{_+_, _<_, _≤_, _-_};
 ghost use lib.ListN.{length};
 ghost use Rattle.codec.specs.Le.{load};
-ghost use Rattle.protocol.specs.Record.{Setting};
+ghost use Rattle.vector.specs.Vec.{allBelow};
 ghost use Rattle.protocol.specs.Needs.{ranges};
 ghost use Rattle.table.specs.Tabulate.{tabulate};
 ghost use Rattle.event.specs.Fields.{unusedZero};
@@ -85,19 +85,27 @@ fn field_lawful(e: &[u8], within: [bool; 10], row: usize, f: usize) -> bool
     }
 }
 
-// "a used field out of range or an unused one not zero" is 11.
-pub fn fields_lawful(e: &[u8], sites: u8, parts: u8) -> bool
-    requires { ⌜ (length (now e) ≡ 32) × (codeLawful (now e) ≡ true) ⌝ }
-    ensures { λ r. ⌜ r ≡ (unusedZero (now (e .entry)) && met (ranges (record { sites = sites; parts = parts }) (eventOf (now (e .entry))))) ⌝ }
+// All ten fields.
+fn each_lawful(e: &[u8], within: [bool; 10], row: usize) -> bool
+    requires { ⌜ (length (now e) ≡ 32) × (row < 10) ⌝ }
+    ensures { λ r. ⌜ r ≡ allBelow 10 (fieldLawful (now (e .entry)) within row) ⌝ }
 {
-    let fields = load_fields(e);
-    let within = bounds::in_range(fields, sites, parts);
-    let row = (fields.code - 1) as usize;
     let mut all = true;
     let mut f = 0;
     while f < 10 {
         all = all & field_lawful(e, within, row, f);
         f += 1;
     }
-    all & (flags::rest_zero(e) & flags::zeros(e, 28, 4))
+    all
+}
+
+// "a used field out of range or an unused one not zero" is 11.
+pub fn fields_lawful(e: &[u8], sites: u8, parts: u8) -> bool
+    requires { ⌜ (length (now e) ≡ 32) × (codeLawful (now e) ≡ true) ⌝ }
+    ensures { λ r. ⌜ r ≡ (unusedZero (now (e .entry)) && met (ranges (record { sites = sites; parts = parts }) (eventOf (now (e .entry))))) ⌝ }
+{
+    let x = load_fields(e);
+    let within = bounds::in_range(x, sites, parts);
+    let row = (x.code - 1) as usize;
+    each_lawful(e, within, row) & (flags::rest_zero(e) & flags::zeros(e, 28, 4))
 }

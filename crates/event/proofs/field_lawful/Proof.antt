@@ -1,10 +1,9 @@
+-- `event::field_lawful` meets its contract, where the field is used and where not. Assumes nothing.
+use mathlib.Core.Path.{_∙_, sym}
+use Rattle.event.specs.Ranges.{fieldLawful}
 use borrow.Author.Needs.{needs}
 use Rattle.event.proofs.field_lawful.Statement.{statement}
 use Rattle.event.proofs.field_lawful.Tie as tie
-use Rattle.event.proofs.field_lawful.Reads as reads
-use Rattle.event.proofs.field_lawful.Lts as lts
-use Rattle.event.proofs.flags.field_zero.Reads as field-zero-reads
-use Rattle.event.proofs.flags.used.Reads as used-reads
 
 used-requires : tie.Need-used-requires
 used-requires c κs = search needs
@@ -16,10 +15,12 @@ field-zero-requires : tie.Need-field-zero-requires
 field-zero-requires c κs = search needs
 
 returns : tie.Need-returns
-returns c = ?
+unfolding fieldLawful
+returns c = rw (sym (c .before .used .ensures) ∙ c .if1 .taken)
 
 returns-2 : tie.Need-returns-2
-returns-2 c = ?
+unfolding fieldLawful
+returns-2 c = rw (sym (c .before .before .used .ensures) ∙ c .before .if1 .left) (c .field-zero .ensures)
 
 pub field-lawful-spec : {M : Type 1} → statement M
 field-lawful-spec =

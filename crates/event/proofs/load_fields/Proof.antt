@@ -1,12 +1,10 @@
+-- `event::load_fields` meets its contract, by what each load ensures. Assumes nothing.
+use mir.Facts.{toZ-ofZ}
+use Rattle.event.specs.Event.{timeOf, levelIn}
+use Rattle.event.specs.Values.{fieldsIn}
 use borrow.Author.Needs.{needs}
 use Rattle.event.proofs.load_fields.Statement.{statement}
 use Rattle.event.proofs.load_fields.Tie as tie
-use Rattle.event.proofs.load_fields.Reads as reads
-use Rattle.event.proofs.load_fields.Lts as lts
-use Rattle.codec.proofs.load_level.Reads as load-level-reads
-use Rattle.codec.proofs.load_u64.Reads as load-u64-reads
-use Rattle.codec.proofs.load_u8.Reads as load-u8-reads
-use Rattle.event.proofs.load_keys.Reads as load-keys-reads
 
 load-u8-requires : tie.Need-load-u8-requires
 load-u8-requires c κs = search needs
@@ -42,7 +40,19 @@ load-keys-requires : tie.Need-load-keys-requires
 load-keys-requires c κs = search needs
 
 returns : tie.Need-returns
-returns c = ?
+unfolding fieldsIn timeOf levelIn
+returns c =
+    let level = c .before in
+    let time = level .before in
+    let count = time .before in
+    let from = count .before in
+    let quality = from .before in
+    let key = quality .before in
+    let session = key .before in
+    let partition = session .before in
+    let site = partition .before in
+    rw
+    (toZ-ofZ (record { sfits = level .load-level .ok }), site .before .load-u8 .ensures, site .load-u82 .ensures, partition .load-u83 .ensures, session .load-u84 .ensures, key .load-u85 .ensures, quality .load-u86 .ensures, from .load-u87 .ensures, count .load-u88 .ensures, time .load-u64 .ensures, level .load-level .ensures, c .load-keys .ensures)
 
 pub load-fields-spec : {M : Type 1} → statement M
 load-fields-spec =
