@@ -19,33 +19,6 @@ use Rattle.protocol.specs.Needs.{keysLawful}
 use Rattle.table.specs.Tabulate.{tabulate}
 use Rattle.event.proofs.Tests.{same-tests, allBelow-front}
 
--- ---- a tabulated list
-
-module _ {A : Type 0} where
-  pub length-tabulate : (n : ℕ) (f : ℕ → A) → length (tabulate n f) ≡ n
-  unfolding tabulate
-  length-tabulate zero f = refl
-  length-tabulate (suc n) f = ap suc (length-tabulate n (λ i. f (suc i)))
-
-  pub getD-tabulate : (n : ℕ) (f : ℕ → A) (d : A) (i : ℕ) → i < n → getD (tabulate n f) i d ≡ f i
-  unfolding tabulate
-  getD-tabulate zero f d i h = absurd (omega arith)
-  getD-tabulate (suc n) f d zero h = refl
-  getD-tabulate (suc n) f d (suc i) h = getD-tabulate n (λ i. f (suc i)) d i (omega arith)
-
-  pub tabulate-ext : (n : ℕ) (f g : ℕ → A) → ((i : ℕ) → i < n → f i ≡ g i) → tabulate n f ≡ tabulate n g
-  unfolding tabulate
-  tabulate-ext zero f g h = refl
-  tabulate-ext (suc n) f g h = rw (h 0 (omega arith), tabulate-ext n (λ i. f (suc i)) (λ i. g (suc i)) (λ i l. h (suc i) (omega arith)))
-
--- a list of n numbers that are f's is the one tabulated
-pub tabulate-is : (n : ℕ) (f : ℕ → ℕ) (l : List ℕ) → length l ≡ n → Agree n (entry l) f → l ≡ tabulate n f
-unfolding entry
-tabulate-is n f l q h =
-    ext-getD 0 l (tabulate n f) (q ∙ sym (length-tabulate n f)) (λ i b. h i (omega arith) ∙ sym (getD-tabulate n f 0 i (omega arith)))
-
--- ---- lawful keys
-
 pub keysLawful-tabulate : (n : ℕ) (f : ℕ → ℕ) → keysLawful (tabulate n f) ≡ allBelow n (λ i. ltb (f i) 64)
 unfolding keysLawful tabulate
 keysLawful-tabulate zero f = unfold allBelow in refl

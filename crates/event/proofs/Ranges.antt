@@ -19,7 +19,8 @@ use Rattle.event.specs.Event.{codeLawful, timeOf, levelIn, keysOf, event
 use Rattle.event.specs.Values.{fieldsIn}
 use Rattle.event.specs.Ranges.{keysBelow, inRange, fieldLawful, fieldsLawful}
 use Rattle.event.proofs.Tests.{first, none, and-behind, choice, and-turn, allBelow-and}
-use Rattle.event.proofs.Keys.{length-tabulate, getD-tabulate, keysLawful-tabulate, below-count}
+use Rattle.event.proofs.Tabulate.{length-tabulate, getD-tabulate}
+use Rattle.event.proofs.Keys.{keysLawful-tabulate, below-count}
 
 -- ---- the keys below the count, as the code tests them: a count beyond 8 is out of range either way
 

@@ -26,6 +26,15 @@ choice true a z = refl
 choice false a true = refl
 choice false a false = refl
 
+-- a choice that passes, by what passes
+pub choice-yes {ℓ} : {R : Type ℓ} (u a z : Bool) → T (cond u a z) → (T a → R) → (T z → R) → R
+choice-yes true a z t f g = f t
+choice-yes false a z t f g = g t
+
+pub choice-first : (u a z : Bool) → T u → T (cond u a z) → T a
+choice-first true a z h t = t
+choice-first false a z h t = absurd h
+
 pub and-swap : (a b c d : Bool) → (a && b && (c && d)) ≡ (a && c && (b && d))
 and-swap true true c d = refl
 and-swap true false true d = refl

@@ -28,10 +28,10 @@ fieldsIn e = record {
 unfoldable pub keysFrom : Fields → List ℕ
 keysFrom x = tabulate (x .count) (λ i. getD (x .keys) i 0)
 
-unfoldable pub eventFrom : Fields → Event
-eventFrom x =
-    getD
-    (OPEN (x .session) (x .site)
+-- the events of the codes 1 to 10
+abbrev pub eventsFrom : Fields → List Event
+eventsFrom x =
+    OPEN (x .session) (x .site)
     ∷ CLOSE (x .session)
     ∷ CLOCK (x .site) (x .partition) (x .time)
     ∷ GET (x .session) (x .key)
@@ -41,5 +41,11 @@ eventFrom x =
     ∷ END (x .session)
     ∷ BEAT (x .site) (x .partition)
     ∷ DELIVER (x .from) (x .site) (x .partition)
-    ∷ [])
-    (x .code - 1) (CLOSE (x .session))
+    ∷ []
+
+-- the event of the code n, and that of the code that x has
+abbrev pub eventFor : Fields → ℕ → Event
+eventFor x n = getD (eventsFrom x) (n - 1) (CLOSE (x .session))
+
+unfoldable pub eventFrom : Fields → Event
+eventFrom x = eventFor x (x .code)

@@ -7,7 +7,7 @@ use lib.ListN.{length, length-set}
 use Rattle.codec.specs.Le.{load}
 use Rattle.vector.specs.Entries.{entry}
 use Rattle.vector.proofs.Entries.{Agree, fill-more}
-use Rattle.event.proofs.Keys.{tabulate-is}
+use Rattle.event.proofs.Tabulate.{tabulate-is}
 use borrow.Author.Needs.{needs}
 use Rattle.event.proofs.load_keys.Statement.{statement}
 use Rattle.event.proofs.load_keys.Tie as tie

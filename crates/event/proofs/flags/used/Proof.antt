@@ -1,7 +1,7 @@
 -- `event::flags::used` meets its contract: the table is its rule, tabulated. Assumes nothing.
 use Rattle.table.specs.Tabulate.{tabulate}
 use Rattle.event.specs.Fields.{uses}
-use Rattle.event.proofs.Table.{flag-rule}
+use Rattle.event.proofs.Tabulate.{flag-rule}
 use borrow.Author.Needs.{needs}
 use Rattle.event.proofs.flags.used.Statement.{statement}
 use Rattle.event.proofs.flags.used.Tie as tie
