@@ -1,3 +1,5 @@
--- What an event's bytes say, and when bytes that it does not use are zero.
+-- What an event's bytes say, and when they are lawful.
 pub mod Fields
 pub mod Event
+pub mod Values
+pub mod Ranges

@@ -1,4 +1,111 @@
-// What an event's 32 bytes say, and refusals 10 and 11. It reads the event alone.
-pub fn codes() -> u8 {
-    10
+// "An event is 32 bytes": what they say, and refusals 10 and 11. In order: the fields as values, the code, all the fields. Which code uses which
+// field is in flags, the range of each field in bounds. It reads the event alone.
+ghost use mathlib.Core.Path.{_≡_};
+ghost use mathlib.Core.Bool.{true, _&&_};
+ghost use Prim.Native.Nat.{_+_, _<_, _≤_, _-_};
+ghost use lib.ListN.{length};
+ghost use Rattle.codec.specs.Le.{load};
+ghost use Rattle.vector.specs.Vec.{allBelow};
+ghost use Rattle.protocol.specs.Needs.{ranges};
+ghost use Rattle.table.specs.Tabulate.{tabulate};
+ghost use Rattle.event.specs.Fields.{unusedZero};
+ghost use Rattle.event.specs.Event.{codeLawful, eventOf, met};
+ghost use Rattle.event.specs.Values.{fieldsIn};
+ghost use Rattle.event.specs.Ranges.{fieldLawful, inRange};
+
+pub mod flags;
+pub mod bounds;
+
+// The numbers of an event's fields, of whatever code.
+pub struct Fields {
+    pub code: u8,
+    pub site: u8,
+    pub partition: u8,
+    pub session: u8,
+    pub key: u8,
+    pub quality: u8,
+    pub from: u8,
+    pub count: u8,
+    pub time: u64,
+    pub level: i32,
+    pub keys: [u8; 8],
+}
+
+// All eight bytes of the page keys.
+fn load_keys(e: &[u8]) -> [u8; 8]
+    requires { ⌜ length (now e) ≡ 32 ⌝ }
+    ensures { λ r. ⌜ r ≡ tabulate 8 (λ i. load 1 (now (e .entry)) (20 + i)) ⌝ }
+{
+    let mut keys = [0u8; 8];
+    let mut i = 0;
+    while i < 8 {
+        keys[i] = codec::load_u8(e, 20 + i);
+        i += 1;
+    }
+    keys
+}
+
+pub fn load_fields(e: &[u8]) -> Fields
+    requires { ⌜ length (now e) ≡ 32 ⌝ }
+    ensures { λ r. ⌜ r ≡ fieldsIn (now (e .entry)) ⌝ }
+{
+    Fields {
+        code: codec::load_u8(e, 0),
+        site: codec::load_u8(e, 1),
+        partition: codec::load_u8(e, 2),
+        session: codec::load_u8(e, 3),
+        key: codec::load_u8(e, 4),
+        quality: codec::load_u8(e, 5),
+        from: codec::load_u8(e, 6),
+        count: codec::load_u8(e, 7),
+        time: codec::load_u64(e, 8),
+        level: codec::load_level(e, 16),
+        keys: load_keys(e),
+    }
+}
+
+// "code isn't 1 to 10" is 10.
+pub fn code_lawful(e: &[u8]) -> bool
+    requires { ⌜ length (now e) ≡ 32 ⌝ }
+    ensures { λ r. ⌜ r ≡ codeLawful (now (e .entry)) ⌝ }
+{
+    let code = codec::load_u8(e, 0);
+    (0 < code) & (code < 11)
+}
+
+// The field f, of an event of the code row + 1, is in its range where it is used, and zero where it is not.
+fn field_lawful(e: &[u8], within: [bool; 10], row: usize, f: usize) -> bool
+    requires { ⌜ (length (now e) ≡ 32) × (row < 10) × (f < 10) ⌝ }
+    ensures { λ r. ⌜ r ≡ fieldLawful (now (e .entry)) within row f ⌝ }
+{
+    if flags::used(row, f) {
+        within[f]
+    } else {
+        flags::field_zero(e, f)
+    }
+}
+
+// All ten fields.
+fn each_lawful(e: &[u8], within: [bool; 10], row: usize) -> bool
+    requires { ⌜ (length (now e) ≡ 32) × (row < 10) ⌝ }
+    ensures { λ r. ⌜ r ≡ allBelow 10 (fieldLawful (now (e .entry)) within row) ⌝ }
+{
+    let mut all = true;
+    let mut f = 0;
+    while f < 10 {
+        all = all & field_lawful(e, within, row, f);
+        f += 1;
+    }
+    all
+}
+
+// "a used field out of range or an unused one not zero" is 11.
+pub fn fields_lawful(e: &[u8], sites: u8, parts: u8) -> bool
+    requires { ⌜ (length (now e) ≡ 32) × (codeLawful (now e) ≡ true) ⌝ }
+    ensures { λ r. ⌜ r ≡ (unusedZero (now (e .entry)) && met (ranges (record { sites = sites; parts = parts }) (eventOf (now (e .entry))))) ⌝ }
+{
+    let x = load_fields(e);
+    let within = bounds::in_range(x, sites, parts);
+    let row = (x.code - 1) as usize;
+    each_lawful(e, within, row) & (flags::rest_zero(e) & flags::zeros(e, 28, 4))
 }

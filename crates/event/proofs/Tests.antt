@@ -1,0 +1,70 @@
+-- Tests that are joined. In order: two tests that pass in the same cases are one; a choice as two tests; tests of every number below n, joined,
+-- taken from the front, and walked by a loop that keeps whether all passed. Assumes nothing.
+use mathlib.Core.Path.{_≡_, refl, sym, ap, _∙_}
+use mathlib.Core.Bool.{Bool, true, false, cond, not, _&&_, _||_, and-assoc, and-comm}
+use Prim.Native.Nat.{ℕ, zero, suc, _<_}
+use native.Mathlib.Omega.{arith}
+use lib.Dec.{T}
+use Rattle.vector.specs.Vec.{allBelow}
+
+-- ---- single tests
+
+pub same-tests : (a b : Bool) → (T a → T b) → (T b → T a) → a ≡ b
+same-tests true true f g = refl
+same-tests true false f g = absurd (f tt)
+same-tests false true f g = absurd (g tt)
+same-tests false false f g = refl
+
+-- what stands behind a test matters only where it passes
+pub and-behind : (a b c : Bool) → (T a → b ≡ c) → (a && b) ≡ (a && c)
+and-behind true b c h = h tt
+and-behind false b c h = refl
+
+-- a where u, z elsewhere: z must hold unless u, and a if u
+pub choice : (u a z : Bool) → cond u a z ≡ ((u || z) && (not u || a))
+choice true a z = refl
+choice false a true = refl
+choice false a false = refl
+
+-- a choice that passes, by what passes
+pub choice-yes {ℓ} : {R : Type ℓ} (u a z : Bool) → T (cond u a z) → (T a → R) → (T z → R) → R
+choice-yes true a z t f g = f t
+choice-yes false a z t f g = g t
+
+pub choice-first : (u a z : Bool) → T u → T (cond u a z) → T a
+choice-first true a z h t = t
+choice-first false a z h t = absurd h
+
+pub and-swap : (a b c d : Bool) → (a && b && (c && d)) ≡ (a && c && (b && d))
+and-swap true true c d = refl
+and-swap true false true d = refl
+and-swap true false false d = refl
+and-swap false b c d = refl
+
+pub and-turn : (a b c : Bool) → (a && b && c) ≡ (a && c && b)
+and-turn a b c = and-assoc a b c ∙ ap (λ (d : Bool). a && d) (and-comm b c) ∙ sym (and-assoc a c b)
+
+-- ---- a test of every number below n
+
+pub allBelow-and : (n : ℕ) (f g : ℕ → Bool) → allBelow n (λ i. f i && g i) ≡ (allBelow n f && allBelow n g)
+unfolding allBelow
+allBelow-and zero f g = refl
+allBelow-and (suc n) f g = rw (allBelow-and n f g) (and-swap (allBelow n f) (allBelow n g) (f n) (g n))
+
+pub allBelow-front : (n : ℕ) (f : ℕ → Bool) → allBelow (suc n) f ≡ (f 0 && allBelow n (λ i. f (suc i)))
+unfolding allBelow
+allBelow-front zero f = go (f 0)
+  where
+    go : (b : Bool) → b ≡ (b && true)
+    go true = refl
+    go false = refl
+allBelow-front (suc n) f = rw (allBelow-front n f) (and-assoc (f 0) (allBelow n (λ i. f (suc i))) (f (suc n)))
+
+-- ---- a claim of every number below n, one number after the other
+
+pub none : (P : ℕ → Type 0) (n : ℕ) → n < 0 → P n
+none P n h = absurd (omega arith)
+
+pub first : (P : ℕ → Type 0) (k : ℕ) → P 0 → ((n : ℕ) → n < k → P (suc n)) → (n : ℕ) → n < suc k → P n
+first P k p q zero h = p
+first P k p q (suc n) h = q n (omega arith)

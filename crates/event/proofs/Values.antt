@@ -1,0 +1,65 @@
+-- The values that the code loads say the event of the bytes. In order: a lawful count, the keys below it, the event, and which event it is for each
+-- code, as a dispatcher that matches on the code asks. Assumes nothing.
+use mathlib.Core.Path.{_≡_, sym, ap, _∙_}
+use mathlib.Core.Bool.{Bool, true, false, _&&_}
+use mathlib.Core.List.{List}
+use Prim.Native.Nat.{ℕ, _+_, _-_, _≤_, _<_}
+use native.Mathlib.Omega.{arith}
+use lib.Dec.{T, ltb, leb, eqb}
+use lib.ListN.{getD}
+use mir.Facts.{and-yes, leb-yes, eqb-yes}
+use Rattle.codec.specs.Le.{load}
+use Rattle.vector.specs.Vec.{allBelow}
+use Rattle.vector.proofs.Vec.{all-below-at}
+use Rattle.protocol.specs.Record.{Setting}
+use Rattle.protocol.specs.Needs.{ranges}
+use Rattle.event.specs.declared.Fields.{Fields}
+use Rattle.event.specs.Fields.{uses, zeroAt, restZero, unusedZero}
+use Rattle.event.specs.Event.{codeLawful, keysOf, eventOf, met}
+use Rattle.event.specs.Values.{fieldsIn, keysFrom, eventFor, eventFrom}
+use Rattle.event.specs.Ranges.{inRange, fieldLawful, fieldsLawful}
+use Rattle.event.proofs.Tests.{choice-yes, choice-first}
+use Rattle.event.proofs.Tabulate.{getD-tabulate, tabulate-ext}
+use Rattle.event.proofs.Ranges.{fields-lawful}
+
+module _ (c : Setting) (e : List ℕ) where
+  -- neither 10 nor 11
+  abbrev pub Lawful : Type 0
+  Lawful = (codeLawful e ≡ true) × ((unusedZero e && met (ranges c (eventOf e))) ≡ true)
+
+  -- ---- a field of a lawful event
+
+  each-lawful : Lawful → (f : ℕ) → f < 10 → T (fieldLawful e (inRange c (fieldsIn e)) (load 1 e 0 - 1) f)
+  unfolding fieldsLawful
+  each-lawful l f h =
+      let each : ℕ → Bool = fieldLawful e (inRange c (fieldsIn e)) (load 1 e 0 - 1) in
+      let t : T (fieldsLawful c e) = rw (fields-lawful c e (l .0), l .1) tt in
+      all-below-at 10 each (and-yes (allBelow 10 each) (restZero e && zeroAt e 28 4) t .0) f h
+
+  -- a field that is used is in its range
+  pub used-in-range : Lawful → (f : ℕ) → f < 10 → T (uses (load 1 e 0 - 1) f) → T (getD (inRange c (fieldsIn e)) f false)
+  unfolding fieldLawful
+  used-in-range l f h u = choice-first (uses (load 1 e 0 - 1) f) _ _ u (each-lawful l f h)
+
+  -- the count is at most 8, used or not
+  count-low : Lawful → load 1 e 7 ≤ 8
+  unfolding fieldLawful inRange fieldsIn zeroAt load
+  count-low l =
+      choice-yes (uses (load 1 e 0 - 1) 6) _ _ (each-lawful l 6 (omega arith))
+      (λ u. leb-yes (and-yes (ltb 0 (load 1 e 7)) (leb (load 1 e 7) 8) u .1))
+      (λ u. let z : getD e 7 0 ≡ 0 = eqb-yes (all-below-at 1 (λ i. eqb (getD e (7 + i) 0) 0) u 0 (omega arith)) in omega arith)
+
+-- ---- the event
+
+keysFrom-fieldsIn : (e : List ℕ) → load 1 e 7 ≤ 8 → keysFrom (fieldsIn e) ≡ keysOf e
+unfolding keysFrom fieldsIn keysOf
+keysFrom-fieldsIn e h = tabulate-ext (load 1 e 7) _ _ (λ i b. getD-tabulate 8 (λ i. load 1 e (20 + i)) 0 i (omega arith))
+
+pub eventFrom-fieldsIn : (c : Setting) (e : List ℕ) → Lawful c e → eventFrom (fieldsIn e) ≡ eventOf e
+unfolding eventFrom eventOf fieldsIn
+eventFrom-fieldsIn c e l = rw (keysFrom-fieldsIn e (count-low c e l))
+
+-- for a numeral n `eventFor x n` computes: x .code ≡ 1 gives eventOf e ≡ OPEN (x .session) (x .site)
+pub event-is : (c : Setting) (e : List ℕ) (x : Fields) → x ≡ fieldsIn e → Lawful c e → (n : ℕ) → x .code ≡ n → eventOf e ≡ eventFor x n
+unfolding eventFrom
+event-is c e x q l n h = sym (rw q (eventFrom-fieldsIn c e l)) ∙ ap (eventFor x) h

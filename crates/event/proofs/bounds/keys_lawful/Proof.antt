@@ -1,0 +1,48 @@
+-- `event::bounds::keys_lawful` meets its contract: `all` says it of the first i keys. Assumes nothing.
+use mathlib.Core.Path.{_≡_, sym}
+use mathlib.Core.Bool.{_||_}
+use Prim.Native.Nat.{_-_, _≤_}
+use native.Mathlib.Omega.{arith}
+use lib.Dec.{leb, ltb}
+use lib.ListN.{getD}
+use Rattle.vector.specs.Vec.{allBelow}
+use Rattle.vector.proofs.Entries.{allBelow-none, allBelow-step}
+use Rattle.event.specs.Ranges.{keysBelow}
+use borrow.Author.Needs.{needs}
+use Rattle.event.proofs.bounds.keys_lawful.Statement.{statement}
+use Rattle.event.proofs.bounds.keys_lawful.Tie as tie
+
+abbrev Inv-loop : tie.InvT-loop
+Inv-loop count keys n all₀ i₀ all i = (i ≤ 8) × (n ≡ count) × (all ≡ allBelow i (λ k. leb n k || ltb (getD keys k 0) 64))
+
+abbrev μ-loop : tie.MeasureT-loop
+μ-loop count keys n all₀ i₀ all i = 8 - i
+
+loop-holds : tie.Need-loop-holds Inv-loop μ-loop
+loop-holds c = (omega arith, search needs, sym (allBelow-none _))
+
+array-read-all : tie.Need-array-read-all Inv-loop μ-loop
+array-read-all c = search needs
+
+add-i : tie.Need-add-i Inv-loop μ-loop
+add-i c = search needs
+
+loop-less : tie.Need-loop-less Inv-loop μ-loop
+loop-less c = search needs
+
+loop-again : tie.Need-loop-again Inv-loop μ-loop
+loop-again c =
+    let l = c .before in
+    (omega arith, l .loop .inv .1, rw (l .loop .inv .2) (sym (allBelow-step (l .loop .i) _)))
+
+returns : tie.Need-returns Inv-loop μ-loop
+unfolding keysBelow
+returns c =
+    let l = c .before in
+    let e : l .loop .i ≡ 8 = omega arith in
+    rw (e, l .loop .inv .1) at (l .loop .inv .2)
+
+pub keys-lawful-spec : {M : Type 1} → statement M
+keys-lawful-spec =
+    tie.close
+    (tie.spec Inv-loop μ-loop loop-holds array-read-all add-i loop-less loop-again returns)

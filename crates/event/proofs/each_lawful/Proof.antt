@@ -1,0 +1,44 @@
+-- `event::each_lawful` meets its contract: `all` says it of the first f fields. Assumes nothing.
+use mathlib.Core.Path.{_≡_, sym}
+use Prim.Native.Nat.{_-_, _≤_}
+use native.Mathlib.Omega.{arith}
+use Rattle.vector.specs.Vec.{allBelow}
+use Rattle.vector.proofs.Entries.{allBelow-none, allBelow-step}
+use Rattle.event.specs.Ranges.{fieldLawful}
+use borrow.Author.Needs.{needs}
+use Rattle.event.proofs.each_lawful.Statement.{statement}
+use Rattle.event.proofs.each_lawful.Tie as tie
+
+abbrev Inv-loop : tie.InvT-loop
+Inv-loop e within row all₀ f₀ all f = (f ≤ 10) × (all ≡ allBelow f (fieldLawful e within row))
+
+abbrev μ-loop : tie.MeasureT-loop
+μ-loop e within row all₀ f₀ all f = 10 - f
+
+loop-holds : tie.Need-loop-holds Inv-loop μ-loop
+loop-holds c = (omega arith, sym (allBelow-none _))
+
+field-lawful-requires : tie.Need-field-lawful-requires Inv-loop μ-loop
+field-lawful-requires c κs = search needs
+
+add-f : tie.Need-add-f Inv-loop μ-loop
+add-f c = search needs
+
+loop-less : tie.Need-loop-less Inv-loop μ-loop
+loop-less c = search needs
+
+loop-again : tie.Need-loop-again Inv-loop μ-loop
+loop-again c =
+    let l = c .before .before in
+    (omega arith, rw (l .loop .inv .1, c .field-lawful .ensures) (sym (allBelow-step (l .loop .f) _)))
+
+returns : tie.Need-returns Inv-loop μ-loop
+returns c =
+    let l = c .before in
+    let e : l .loop .f ≡ 10 = omega arith in
+    rw e at (l .loop .inv .1)
+
+pub each-lawful-spec : {M : Type 1} → statement M
+each-lawful-spec =
+    tie.close
+    (tie.spec Inv-loop μ-loop loop-holds field-lawful-requires add-f loop-less loop-again returns)

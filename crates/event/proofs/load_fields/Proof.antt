@@ -1,0 +1,72 @@
+-- `event::load_fields` meets its contract, by what each load ensures. Assumes nothing.
+use mir.Facts.{toZ-ofZ}
+use Rattle.event.specs.Event.{timeOf, levelIn}
+use Rattle.event.specs.Values.{fieldsIn}
+use borrow.Author.Needs.{needs}
+use Rattle.event.proofs.load_fields.Statement.{statement}
+use Rattle.event.proofs.load_fields.Tie as tie
+
+load-u8-requires : tie.Need-load-u8-requires
+load-u8-requires c κs = search needs
+
+load-u8-requires-2 : tie.Need-load-u8-requires-2
+load-u8-requires-2 c κs = search needs
+
+load-u8-requires-3 : tie.Need-load-u8-requires-3
+load-u8-requires-3 c κs = search needs
+
+load-u8-requires-4 : tie.Need-load-u8-requires-4
+load-u8-requires-4 c κs = search needs
+
+load-u8-requires-5 : tie.Need-load-u8-requires-5
+load-u8-requires-5 c κs = search needs
+
+load-u8-requires-6 : tie.Need-load-u8-requires-6
+load-u8-requires-6 c κs = search needs
+
+load-u8-requires-7 : tie.Need-load-u8-requires-7
+load-u8-requires-7 c κs = search needs
+
+load-u8-requires-8 : tie.Need-load-u8-requires-8
+load-u8-requires-8 c κs = search needs
+
+load-u64-requires : tie.Need-load-u64-requires
+load-u64-requires c κs = search needs
+
+load-level-requires : tie.Need-load-level-requires
+load-level-requires c κs = search needs
+
+load-keys-requires : tie.Need-load-keys-requires
+load-keys-requires c κs = search needs
+
+returns : tie.Need-returns
+unfolding fieldsIn timeOf levelIn
+returns c =
+    let level = c .before in
+    let time = level .before in
+    let count = time .before in
+    let from = count .before in
+    let quality = from .before in
+    let key = quality .before in
+    let session = key .before in
+    let partition = session .before in
+    let site = partition .before in
+    rw
+    (toZ-ofZ (record { sfits = level .load-level .ok }), site .before .load-u8 .ensures, site .load-u82 .ensures, partition .load-u83 .ensures, session .load-u84 .ensures, key .load-u85 .ensures, quality .load-u86 .ensures, from .load-u87 .ensures, count .load-u88 .ensures, time .load-u64 .ensures, level .load-level .ensures, c .load-keys .ensures)
+
+pub load-fields-spec : {M : Type 1} → statement M
+load-fields-spec =
+    tie.close
+    (tie.spec
+    load-u8-requires
+    load-u8-requires-2
+    load-u8-requires-3
+    load-u8-requires-4
+    load-u8-requires-5
+    load-u8-requires-6
+    load-u8-requires-7
+    load-u8-requires-8
+    load-u64-requires
+    load-level-requires
+    load-keys-requires
+    returns)

@@ -1,0 +1,46 @@
+// The range of each field, whether its code uses it or not: refusal 11's numbers. In order: a level, page keys, all ten fields. It touches nothing.
+ghost use mathlib.Core.Path.{_≡_};
+ghost use Rattle.protocol.specs.Needs.{levelLawful};
+ghost use Rattle.protocol.specs.Record.{Setting};
+ghost use Rattle.event.specs.Ranges.{keysBelow, inRange};
+use crate::Fields;
+
+// "level: −50,000 to 1,000,000 mm from datum"
+pub fn level_lawful(x: i32) -> bool
+    ensures { λ r. ⌜ r ≡ levelLawful x ⌝ }
+{
+    (-50000 <= x) & (x <= 1000000)
+}
+
+// The keys below the count are 0 to 63.
+pub fn keys_lawful(keys: [u8; 8], count: u8) -> bool
+    ensures { λ r. ⌜ r ≡ keysBelow keys count ⌝ }
+{
+    let n = count as usize;
+    let mut all = true;
+    let mut i = 0;
+    while i < 8 {
+        all = all & ((n <= i) | (keys[i] < 64));
+        i += 1;
+    }
+    all
+}
+
+// A test for each field, in the order of the table of flags.
+pub fn in_range(x: Fields, sites: u8, parts: u8) -> [bool; 10]
+    ensures { λ r. ⌜ r ≡ inRange (record { sites = sites; parts = parts }) x ⌝ }
+{
+    let keys = x.keys;
+    [
+        x.site < sites,
+        x.partition < parts,
+        x.session < 16,
+        x.key < 64,
+        x.quality < 3,
+        (x.from < sites) & (x.from != x.site),
+        (0 < x.count) & (x.count <= 8),
+        x.time < 281474976710656,
+        level_lawful(x.level),
+        keys_lawful(keys, x.count),
+    ]
+}
