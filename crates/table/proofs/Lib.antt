@@ -6,7 +6,7 @@ pub mod Lent
 pub mod Sent
 pub mod Tabulate
 pub mod Parts
-pub mod Letters
-pub mod Nodes
-pub mod Channels
-pub mod Sessions
+pub mod LetterBytes
+pub mod NodeBytes
+pub mod ChannelBytes
+pub mod SessionBytes

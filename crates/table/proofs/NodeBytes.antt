@@ -21,7 +21,7 @@ use Rattle.table.specs.Node.{clockIn, heardIn, heldIn, slotAt, storeIn, 
 use Rattle.table.specs.Fits.{FitsRec, FitsMsg, RoomFor}
 use Rattle.table.proofs.Lengths.{length-putRecord}
 use Rattle.table.proofs.Tabulate.{tab-ext, tab-more}
-use Rattle.table.proofs.Letters.{Same, loadVec-ext, record-ext, load-putRecord-other, record-putRecord}
+use Rattle.table.proofs.LetterBytes.{Same, loadVec-ext, record-ext, load-putRecord-other, record-putRecord}
 
 -- ---- a put before the records
 

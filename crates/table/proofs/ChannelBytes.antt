@@ -12,7 +12,7 @@ use Rattle.table.specs.Channel.{frontIn, waitIn, ringAt, queueIn, pushed
 use Rattle.table.specs.Fits.{FitsMsg}
 use Rattle.table.proofs.Lengths.{length-putMessage}
 use Rattle.table.proofs.Tabulate.{tab-more, tab-tail}
-use Rattle.table.proofs.Letters.{message-ext, load-putMessage-other, message-putMessage}
+use Rattle.table.proofs.LetterBytes.{message-ext, load-putMessage-other, message-putMessage}
 
 module _ (m : ℕ) (x : Msg) (c : List ℕ) (l : length c ≡ 464) (h : m < 256) (small : FitsMsg x) (room : waitIn c < 8) where
   load-pushed-other : (w j : ℕ) → Apart j w 1 1 → Apart j w (ringAt (frontIn c) (waitIn c)) 48 → load w (pushed m x c) j ≡ load w c j

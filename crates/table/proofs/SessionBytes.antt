@@ -19,7 +19,7 @@ use Rattle.table.specs.Tabulate.{tabulate}
 use Rattle.table.specs.Session.{markAt, sessionIn, flag, putMarks, putSession}
 use Rattle.table.specs.Fits.{FitsVec, FitsMarks, FitsSession}
 use Rattle.table.proofs.Tabulate.{tab-ext}
-use Rattle.table.proofs.Letters.{loadVec-ext}
+use Rattle.table.proofs.LetterBytes.{loadVec-ext}
 
 flag-shown : (b : Bool) → eqb (flag b) 1 ≡ b
 flag-shown true = refl
