@@ -1,0 +1,3 @@
+-- What the public functions give, for every input.
+pub mod Call
+pub mod Run

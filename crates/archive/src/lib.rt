@@ -1,0 +1,4 @@
+// The public archive.
+pub fn version() -> u8 {
+    1
+}
