@@ -6,3 +6,5 @@ pub mod Letters
 pub mod Nodes
 pub mod Channels
 pub mod Sessions
+pub mod Changes
+pub mod Decode

@@ -2,16 +2,20 @@
 -- change of one keeps the length of the whole, what each thing of the kind is after it, and that things of another kind are as they were.
 -- Assumes nothing.
 use Prim.Native.Nat.{ℕ, _+_, _*_, _≤_, _<_}
+use native.Mathlib.Decide.{decLt}
 use native.Mathlib.Omega.{arith}
-use mathlib.Core.Path.{_≡_, refl, ap, subst}
+use mathlib.Core.Path.{_≡_, refl, ap, _∙_}
 use mathlib.Core.Logic.{⊎-elim}
 use mathlib.Core.Bool.{Bool, true, false, cond, not, _&&_}
 use mathlib.Core.List.{List, []}
 use lib.Dec.{T, ltb, eqb, lt→ltb}
-use lib.ListN.{length}
-use mir.Facts.{and-yes, yes-and, and-no, ltb-yes, eqb-yes, eqb-no}
+use lib.ListN.{length, getD, drop, length-take, List·getD-eq-default}
+use lib.Seq.{getD-take, getD-drop}
+use mir.Syntax.{w8}
+use mir.Val.{Fits}
+use mir.Facts.{fits-lit, and-yes, yes-and, and-no, ltb-yes, eqb-yes, eqb-no}
 use borrow.Author.Tests.{lt-ltb, le-ltb}
-use Rattle.codec.specs.Le.{load, Apart}
+use Rattle.codec.specs.Le.{load, Bytes, Apart}
 use Rattle.codec.specs.Part.{partOf, onPart, Keeps}
 use Rattle.codec.proofs.Le.{load-ext}
 use Rattle.codec.proofs.Part.{length-part, length-onPart, getD-onPart, part-onPart, part-other}
@@ -158,3 +162,48 @@ module _ (s : List ℕ) (p d : ℕ) (f : List ℕ → List ℕ) (l : length s �
   node-onChannel q =
       part-elsewhere (channelAt p d) 464 f s (omega arith) keeps (ltb q 4) (nodeAt q) 1856
       (λ b. let g : q < 4 = ltb-yes b in (omega arith, λ k u v x y. omega arith))
+
+-- ---- the parts of a table of bytes are bytes
+
+bytes-part : (off k : ℕ) (t : List ℕ) → Bytes t → Bytes (partOf off k t)
+bytes-part off k t bytes i = go (decLt i k)
+  where
+    go : Dec (i < k) → Fits w8 (getD (partOf off k t) i 0)
+    go (yes b) = rw (getD-take k (drop off t) i 0 b, getD-drop off t i 0) (bytes (off + i))
+    go (no b) = rw (List·getD-eq-default (partOf off k t) 0 {n = i} (omega (arith, length-take k (drop off t)))) (fits-lit tt)
+
+bytes-if : (b : Bool) (t : List ℕ) → Bytes t → Bytes (cond b t [])
+bytes-if true t bytes = bytes
+bytes-if false t bytes = λ i. fits-lit tt
+
+pub bytes-site : (t : List ℕ) (m : ℕ) → Bytes t → Bytes (siteOf t m)
+unfolding siteOf
+bytes-site t m bytes = bytes-if (ltb m 4) (partOf (siteAt m) 13056 t) (bytes-part (siteAt m) 13056 t bytes)
+
+pub bytes-node : (s : List ℕ) (p : ℕ) → Bytes s → Bytes (nodeOf s p)
+unfolding nodeOf
+bytes-node s p bytes = bytes-if (ltb p 4) (partOf (nodeAt p) 1856 s) (bytes-part (nodeAt p) 1856 s bytes)
+
+pub bytes-channel : (s : List ℕ) (p d : ℕ) → Bytes s → Bytes (channelOf s p d)
+unfolding channelOf
+bytes-channel s p d bytes = bytes-if (ltb p 4 && ltb d 3) (partOf (channelAt p d) 464 s) (bytes-part (channelAt p d) 464 s bytes)
+
+-- ---- nodes and channels of the whole table
+
+module _ (t : List ℕ) (m p : ℕ) (l : length t ≡ tableLength) (h : m < 4) (h′ : p < 4) where
+  pub length-nodeOf : length (nodeOf (siteOf t m) p) ≡ 1856
+  length-nodeOf = length-node (siteOf t m) p (length-site t m l h) h′
+
+  pub length-channelOf : (d : ℕ) → d < 3 → length (channelOf (siteOf t m) p d) ≡ 464
+  length-channelOf d h″ = length-channel (siteOf t m) p d (length-site t m l h) h′ h″
+
+-- what X reads of a site after g was done to site m
+pub read-onSite {ℓ} : {A : Type ℓ} (X : List ℕ → A) (t : List ℕ) (m : ℕ) (g : List ℕ → List ℕ) → length t ≡ tableLength → m < 4 → Keeps 13056 g → (j : ℕ) (u : A)
+    → (length (siteOf t j) ≡ 13056 → X (g (siteOf t j)) ≡ u) → X (siteOf (onSite m g t) j) ≡ cond (eqb j m) u (X (siteOf t j))
+read-onSite X t m g l h keeps j u e =
+    ap X (site-onSite t m g l h keeps j)
+    ∙ go (eqb j m) (λ q. let r : j ≡ m = eqb-yes q in e (length-site t j l (omega arith)))
+  where
+    go : (b : Bool) → (T b → X (g (siteOf t j)) ≡ u) → X (cond b (g (siteOf t j)) (siteOf t j)) ≡ cond b u (X (siteOf t j))
+    go true f = f tt
+    go false f = refl
