@@ -22,7 +22,7 @@ use Rattle.table.specs.Decode.{settingIn, decode}
 use Rattle.table.specs.Put.{publishedOn, putChange, putChanges, fresh}
 use Rattle.table.specs.Fits.{FitsSession, FitsPublish, FitsReceive, Fits, FitsAll}
 use Rattle.table.proofs.Lengths.{length-clockSet, length-received, length-popped, length-putSession}
-use Rattle.table.proofs.Parts.{length-session, length-onSession, session-onSession, site-onSession, load-onSession, length-onSite, session-onSite, load-onSite, bytes-site, bytes-node, bytes-channel, length-nodeOf, length-channelOf}
+use Rattle.table.proofs.Parts.{length-session, length-onSession, session-onSession, site-onSession, load-onSession, length-onSite, session-onSite, load-onSite, bytes-nodeOf, bytes-channelOf, length-nodeOf, length-channelOf}
 use Rattle.table.proofs.Nodes.{clock-clockSet, heard-clockSet, store-clockSet, clock-published, heard-published, store-published, clock-received, heard-received, store-received}
 use Rattle.table.proofs.Channels.{queue-pushed, queue-popped}
 use Rattle.table.proofs.Sessions.{session-putSession}
@@ -44,7 +44,7 @@ popped-keeps s e = length-popped s ∙ e
 
 -- ---- the state, field by field
 
-state-ext : (S U : State) → S .net .setting ≡ U .net .setting → ((m p : ℕ) → S .net .clock m p ≡ U .net .clock m p) → ((m p : ℕ) → S .net .heard m p ≡ U .net .heard m p) → ((m p : ℕ) → S .net .store m p ≡ U .net .store m p)
+pub state-ext : (S U : State) → S .net .setting ≡ U .net .setting → ((m p : ℕ) → S .net .clock m p ≡ U .net .clock m p) → ((m p : ℕ) → S .net .heard m p ≡ U .net .heard m p) → ((m p : ℕ) → S .net .store m p ≡ U .net .store m p)
     → ((i m p : ℕ) → S .net .chan i m p ≡ U .net .chan i m p) → ((s : ℕ) → S .session s ≡ U .session s) → S ≡ U
 state-ext S U setting clock heard store chan session = λ z.
     record {
@@ -285,7 +285,7 @@ module _ (i m p : ℕ) (x : Msg) (t : List ℕ) (l : length t ≡ tableLength) (
       let g : e ≡ placeOf i m = eqb-yes (both .1) in
       queue-popped (channelOf (siteOf t h) q e)
       (length-channelOf t h q l (omega (arith, fit .source)) (omega (arith, fit .part)) e (omega (arith, near)))
-      (bytes-channel (siteOf t h) q e (bytes-site t h (fit .bytes)))
+      (bytes-channelOf t (fit .bytes) h q e)
 
   decode-receive : decode (putChange (Receive i m p x) t) ≡ apply (Receive i m p x) (decode t)
   unfolding decode apply receive
@@ -293,7 +293,7 @@ module _ (i m p : ℕ) (x : Msg) (t : List ℕ) (l : length t ≡ tableLength) (
       let u = putChange (Receive i m p x) t in
       let n = nodeOf (siteOf t m) p in
       let long = length-nodeOf t m p l (fit .site) (fit .part) in
-      let bytes = bytes-node (siteOf t m) p (bytes-site t m (fit .bytes)) in
+      let bytes = bytes-nodeOf t (fit .bytes) m p in
       state-ext (decode u) (apply (Receive i m p x) (decode t))
       setting-receive
       (node-kept t u m p (received i x) node-receive clockIn (clock-received i x n long (fit .source)))

@@ -8,3 +8,4 @@ pub mod Channels
 pub mod Sessions
 pub mod Changes
 pub mod Decode
+pub mod Fresh

@@ -163,30 +163,52 @@ module _ (s : List ℕ) (p d : ℕ) (f : List ℕ → List ℕ) (l : length s �
       part-elsewhere (channelAt p d) 464 f s (omega arith) keeps (ltb q 4) (nodeAt q) 1856
       (λ b. let g : q < 4 = ltb-yes b in (omega arith, λ k u v x y. omega arith))
 
+-- ---- what holds of each byte of the whole, and of 0, holds of each byte of a part
+
+abbrev pub Every : (ℕ → Type 0) → List ℕ → Type 0
+Every P s = (i : ℕ) → P (getD s i 0)
+
+module _ (P : ℕ → Type 0) (none : P 0) where
+  part-every : (off k : ℕ) (t : List ℕ) → ((i : ℕ) → P (getD t (off + i) 0)) → Every P (partOf off k t)
+  part-every off k t all i = go (decLt i k)
+    where
+      go : Dec (i < k) → P (getD (partOf off k t) i 0)
+      go (yes b) = rw (getD-take k (drop off t) i 0 b, getD-drop off t i 0) (all i)
+      go (no b) = rw (List·getD-eq-default (partOf off k t) 0 {n = i} (omega (arith, length-take k (drop off t)))) none
+
+  every-if : (b : Bool) (s : List ℕ) → Every P s → Every P (cond b s [])
+  every-if true s all = all
+  every-if false s all = λ i. none
+
+  pub every-session : (t : List ℕ) (s : ℕ) → ((i : ℕ) → 128 ≤ i → P (getD t i 0)) → Every P (sessionOf t s)
+  unfolding sessionOf
+  every-session t s all =
+      every-if (ltb s 16) (partOf (sessionAt s) 128 t) (part-every (sessionAt s) 128 t (λ i. all (sessionAt s + i) (omega arith)))
+
+  pub every-site : (t : List ℕ) (m : ℕ) → ((i : ℕ) → 4096 ≤ i → P (getD t i 0)) → Every P (siteOf t m)
+  unfolding siteOf
+  every-site t m all = every-if (ltb m 4) (partOf (siteAt m) 13056 t) (part-every (siteAt m) 13056 t (λ i. all (siteAt m + i) (omega arith)))
+
+  pub every-node : (s : List ℕ) (p : ℕ) → Every P s → Every P (nodeOf s p)
+  unfolding nodeOf
+  every-node s p all = every-if (ltb p 4) (partOf (nodeAt p) 1856 s) (part-every (nodeAt p) 1856 s (λ i. all (nodeAt p + i)))
+
+  pub every-channel : (s : List ℕ) (p d : ℕ) → Every P s → Every P (channelOf s p d)
+  unfolding channelOf
+  every-channel s p d all =
+      every-if (ltb p 4 && ltb d 3) (partOf (channelAt p d) 464 s) (part-every (channelAt p d) 464 s (λ i. all (channelAt p d + i)))
+
 -- ---- the parts of a table of bytes are bytes
 
-bytes-part : (off k : ℕ) (t : List ℕ) → Bytes t → Bytes (partOf off k t)
-bytes-part off k t bytes i = go (decLt i k)
-  where
-    go : Dec (i < k) → Fits w8 (getD (partOf off k t) i 0)
-    go (yes b) = rw (getD-take k (drop off t) i 0 b, getD-drop off t i 0) (bytes (off + i))
-    go (no b) = rw (List·getD-eq-default (partOf off k t) 0 {n = i} (omega (arith, length-take k (drop off t)))) (fits-lit tt)
+module _ (t : List ℕ) (bytes : Bytes t) where
+  bytes-site : (m : ℕ) → Bytes (siteOf t m)
+  bytes-site m = every-site (Fits w8) (fits-lit tt) t m (λ i b. bytes i)
 
-bytes-if : (b : Bool) (t : List ℕ) → Bytes t → Bytes (cond b t [])
-bytes-if true t bytes = bytes
-bytes-if false t bytes = λ i. fits-lit tt
+  pub bytes-nodeOf : (m p : ℕ) → Bytes (nodeOf (siteOf t m) p)
+  bytes-nodeOf m p = every-node (Fits w8) (fits-lit tt) (siteOf t m) p (bytes-site m)
 
-pub bytes-site : (t : List ℕ) (m : ℕ) → Bytes t → Bytes (siteOf t m)
-unfolding siteOf
-bytes-site t m bytes = bytes-if (ltb m 4) (partOf (siteAt m) 13056 t) (bytes-part (siteAt m) 13056 t bytes)
-
-pub bytes-node : (s : List ℕ) (p : ℕ) → Bytes s → Bytes (nodeOf s p)
-unfolding nodeOf
-bytes-node s p bytes = bytes-if (ltb p 4) (partOf (nodeAt p) 1856 s) (bytes-part (nodeAt p) 1856 s bytes)
-
-pub bytes-channel : (s : List ℕ) (p d : ℕ) → Bytes s → Bytes (channelOf s p d)
-unfolding channelOf
-bytes-channel s p d bytes = bytes-if (ltb p 4 && ltb d 3) (partOf (channelAt p d) 464 s) (bytes-part (channelAt p d) 464 s bytes)
+  pub bytes-channelOf : (m p d : ℕ) → Bytes (channelOf (siteOf t m) p d)
+  bytes-channelOf m p d = every-channel (Fits w8) (fits-lit tt) (siteOf t m) p d (bytes-site m)
 
 -- ---- nodes and channels of the whole table
 
