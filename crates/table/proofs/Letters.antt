@@ -7,21 +7,21 @@ use mathlib.Core.Path.{_≡_, refl, ap, _∙_, fun-ext}
 use mathlib.Core.Bool.{Bool, true, false, cond}
 use mathlib.Core.List.{List, [], _∷_}
 use lib.Dec.{T, ltb, eqb}
-use lib.IntN.{ℤ, pos}
+use lib.IntN.{pos}
 use lib.ListN.{length}
 use mir.Facts.{ltb-yes}
-use Rattle.codec.specs.Le.{load, put, span, Apart}
+use Rattle.codec.specs.Le.{load, span, Apart}
 use Rattle.codec.specs.Level.{levelFrom, bitsOf, FitsLevel}
-use Rattle.codec.specs.Fields.{Field, field, putAll, Small, Shows}
+use Rattle.codec.specs.Fields.{Field, field, putAll, Shows}
 use Rattle.codec.proofs.Le.{span-pos}
 use Rattle.codec.proofs.Fields.{length-putAll, load-putAll-other, shows}
 use Rattle.codec.proofs.Level.{levelFrom-bitsOf, bitsOf-lt}
-use Rattle.vector.specs.Vec.{Vec, width, zeros}
+use Rattle.vector.specs.Vec.{width, zeros}
 use Rattle.vector.specs.Entries.{loadVec, putVec}
 use Rattle.vector.proofs.Entries.{load-putVec-other, loadVec-putVec}
 use Rattle.protocol.specs.Record.{Rec, Msg, Update, Beat}
 use Rattle.table.specs.Letter.{recordAt, messageAt, putFields, putRecord, putMessage}
-use Rattle.table.specs.Fits.{FitsVec, FitsRec, FitsMsg}
+use Rattle.table.specs.Fits.{FitsRec, FitsMsg}
 
 -- ---- equal bytes say the same
 

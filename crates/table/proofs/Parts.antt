@@ -1,7 +1,7 @@
 -- The laws of the table's parts: where no two things overlap. In order: any part that is there or not; for each kind of thing its length, that a
 -- change of one keeps the length of the whole, what each thing of the kind is after it, and that things of another kind are as they were.
 -- Assumes nothing.
-use Prim.Native.Nat.{ℕ, _+_, _*_, _≤_, _<_}
+use Prim.Native.Nat.{ℕ, _+_, _≤_, _<_}
 use native.Mathlib.Decide.{decLt}
 use native.Mathlib.Omega.{arith}
 use mathlib.Core.Path.{_≡_, refl, ap, _∙_}
@@ -14,7 +14,7 @@ use lib.Seq.{getD-take, getD-drop}
 use mir.Syntax.{w8}
 use mir.Val.{Fits}
 use mir.Facts.{fits-lit, and-yes, yes-and, and-no, ltb-yes, eqb-yes, eqb-no}
-use borrow.Author.Tests.{lt-ltb, le-ltb}
+use borrow.Author.Tests.{lt-ltb}
 use Rattle.codec.specs.Le.{load, Bytes, Apart}
 use Rattle.codec.specs.Part.{partOf, onPart, Keeps}
 use Rattle.codec.proofs.Le.{load-ext}
@@ -169,7 +169,7 @@ abbrev pub Every : (ℕ → Type 0) → List ℕ → Type 0
 Every P s = (i : ℕ) → P (getD s i 0)
 
 module _ (P : ℕ → Type 0) (none : P 0) where
-  part-every : (off k : ℕ) (t : List ℕ) → ((i : ℕ) → P (getD t (off + i) 0)) → Every P (partOf off k t)
+  pub part-every : (off k : ℕ) (t : List ℕ) → ((i : ℕ) → P (getD t (off + i) 0)) → Every P (partOf off k t)
   part-every off k t all i = go (decLt i k)
     where
       go : Dec (i < k) → P (getD (partOf off k t) i 0)
