@@ -4,3 +4,4 @@ pub mod Values
 pub mod Room
 pub mod Lent
 pub mod Sent
+pub mod Marks
