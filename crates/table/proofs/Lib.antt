@@ -1,5 +1,6 @@
 -- Lengths; slots as lists; the table's parts; what each thing's bytes say after a change; the parts after a change of the table; the whole: bytes stay
--- bytes, `decode` follows each change, and a fresh table says a setup. Then what the code's proofs use: values, room, what is lent, what is sent.
+-- bytes, `decode` follows each change, and a fresh table says a setup. Then what the code's proofs use: values, room, what is
+-- lent, what a change leaves as it was, a message in a site's channels, the keys and marks of a page.
 pub mod Lengths
 pub mod Tabulate
 pub mod Parts
@@ -14,4 +15,6 @@ pub mod Fresh
 pub mod Values
 pub mod Room
 pub mod Lent
+pub mod Beside
 pub mod Sent
+pub mod Marks

@@ -6,7 +6,7 @@ use Rattle.codec.specs.Part.{Keeps}
 use Rattle.table.specs.Put.{publishedOn}
 use Rattle.table.specs.Values.{asMessage}
 use Rattle.table.specs.Node.{published}
-use Rattle.table.proofs.Sent.{free-onNode}
+use Rattle.table.proofs.Beside.{free-onNode}
 use Rattle.table.proofs.Lengths.{length-published}
 use Rattle.table.proofs.sites.publish.Statement.{statement}
 use Rattle.table.proofs.sites.publish.Tie as tie

@@ -1,0 +1,79 @@
+-- `table::publish` meets its contract, by what comes back of the site's part. Assumes nothing.
+use mathlib.Core.Path.{sym, subst}
+use Prim.Native.Nat.{_-_}
+use native.Mathlib.Omega.{arith}
+use borrow.Author.Needs.{needs}
+use Rattle.codec.proofs.Part.{lent-back}
+use Rattle.codec.specs.Le.{load}
+use Rattle.table.specs.Put.{publishedOn, putChange}
+use Rattle.table.specs.Parts.{siteAt, onSite, nodeOf}
+use Rattle.table.specs.Values.{asMessage}
+use Rattle.table.specs.Room.{Room, Free}
+use Rattle.table.proofs.Lent.{site-lent}
+use Rattle.table.proofs.publish.Statement.{statement}
+use Rattle.table.proofs.publish.Tie as tie
+
+load-u8-requires : tie.Need-load-u8-requires
+load-u8-requires c κs = search needs
+
+cast-n : tie.Need-cast-n
+cast-n c = search needs
+
+sub-n : tie.Need-sub-n
+sub-n c = search needs
+
+mul-off : tie.Need-mul-off
+mul-off c = search needs
+
+add-off : tie.Need-add-off
+add-off c = search needs
+
+add-end : tie.Need-add-end
+add-end c = search needs
+
+sub-publish : tie.Need-sub-publish
+sub-publish c = search needs
+
+part-publish-start : tie.Need-part-publish-start
+part-publish-start c = search needs
+
+part-publish-end : tie.Need-part-publish-end
+part-publish-end c = search needs
+
+publish-requires : tie.Need-publish-requires
+publish-requires c κs =
+    let k = c .before in
+    let s = k .before .before .before in
+    let a = s .args in
+    let here = site-lent (a .t .now) (a .m) (omega arith) in
+    let room = subst (λ b. Room (asMessage (a .x)) (nodeOf b (a .p))) here (s .pre .5) in
+    let free = subst (Free (load 1 (a .t .now) 0 - 1) (a .p)) here (s .pre .6) in
+    (search needs, omega arith, omega arith, omega arith, room, rw (k .load-u8 .ensures) free)
+
+same-length : tie.Need-same-length
+same-length c = search needs
+
+returns : tie.Need-returns
+unfolding putChange onSite
+returns c =
+    let k = c .before .before in
+    let n = k .before .before in
+    let a = n .before .before .before .args in
+    rw (sym (n .load-u8 .ensures)) (lent-back (siteAt (a .m)) 13056 (a .t .now) _ (publishedOn (n .load-u8 .result - 1) (a .m) (a .p) (asMessage (a .x))) (k .publish .ensures))
+
+pub publish-spec : {M : Type 1} → statement M
+publish-spec =
+    tie.close
+    (tie.spec
+    load-u8-requires
+    cast-n
+    sub-n
+    mul-off
+    add-off
+    add-end
+    sub-publish
+    part-publish-start
+    part-publish-end
+    publish-requires
+    same-length
+    returns)

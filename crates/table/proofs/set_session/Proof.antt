@@ -1,0 +1,54 @@
+-- `table::set_session` meets its contract, by what comes back of the session. Assumes nothing.
+use borrow.Author.Needs.{needs}
+use Rattle.codec.proofs.Part.{lent-back}
+use Rattle.table.specs.Values.{asSession}
+use Rattle.table.specs.Session.{putSession}
+use Rattle.table.specs.Put.{putChange}
+use Rattle.table.specs.Parts.{sessionAt, onSession}
+use Rattle.table.proofs.set_session.Statement.{statement}
+use Rattle.table.proofs.set_session.Tie as tie
+
+mul-off : tie.Need-mul-off
+mul-off c = search needs
+
+add-off : tie.Need-add-off
+add-off c = search needs
+
+add-end : tie.Need-add-end
+add-end c = search needs
+
+sub-store : tie.Need-sub-store
+sub-store c = search needs
+
+part-store-start : tie.Need-part-store-start
+part-store-start c = search needs
+
+part-store-end : tie.Need-part-store-end
+part-store-end c = search needs
+
+store-requires : tie.Need-store-requires
+store-requires c κs = search needs
+
+same-length : tie.Need-same-length
+same-length c = search needs
+
+returns : tie.Need-returns
+unfolding putChange onSession
+returns c =
+    let k = c .before .before in
+    let a = k .before .before .before .args in
+    lent-back (sessionAt (a .s)) 128 (a .t .now) _ (putSession (asSession (a .x))) (k .store .ensures)
+
+pub set-session-spec : {M : Type 1} → statement M
+set-session-spec =
+    tie.close
+    (tie.spec
+    mul-off
+    add-off
+    add-end
+    sub-store
+    part-store-start
+    part-store-end
+    store-requires
+    same-length
+    returns)

@@ -1,0 +1,59 @@
+-- `table::take_off` meets its contract, by what comes back of the site's part. Assumes nothing.
+use mathlib.Core.Path.{subst}
+use Prim.Native.Nat.{_<_}
+use native.Mathlib.Omega.{arith}
+use borrow.Author.Needs.{needs}
+use Rattle.codec.proofs.Part.{lent-back}
+use Rattle.table.specs.Channel.{waitIn, popped}
+use Rattle.table.specs.Parts.{channelOf, siteAt, onSite, onChannel}
+use Rattle.table.proofs.Lent.{site-lent}
+use Rattle.table.proofs.take_off.Statement.{statement}
+use Rattle.table.proofs.take_off.Tie as tie
+
+mul-off : tie.Need-mul-off
+mul-off c = search needs
+
+add-off : tie.Need-add-off
+add-off c = search needs
+
+add-end : tie.Need-add-end
+add-end c = search needs
+
+sub-pop : tie.Need-sub-pop
+sub-pop c = search needs
+
+part-pop-start : tie.Need-part-pop-start
+part-pop-start c = search needs
+
+part-pop-end : tie.Need-part-pop-end
+part-pop-end c = search needs
+
+pop-requires : tie.Need-pop-requires
+pop-requires c κs =
+    let s = c .before .before in
+    let a = s .args in
+    (search needs, omega arith, omega arith, subst (λ b. 0 < waitIn (channelOf b (a .p) (a .d))) (site-lent (a .t .now) (a .i) (omega arith)) (s .pre .4))
+
+same-length : tie.Need-same-length
+same-length c = search needs
+
+returns : tie.Need-returns
+unfolding onSite
+returns c =
+    let k = c .before .before in
+    let a = k .before .before .before .args in
+    lent-back (siteAt (a .i)) 13056 (a .t .now) _ (onChannel (a .p) (a .d) popped) (k .pop .ensures)
+
+pub take-off-spec : {M : Type 1} → statement M
+take-off-spec =
+    tie.close
+    (tie.spec
+    mul-off
+    add-off
+    add-end
+    sub-pop
+    part-pop-start
+    part-pop-end
+    pop-requires
+    same-length
+    returns)
