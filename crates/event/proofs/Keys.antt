@@ -1,18 +1,13 @@
 -- The page keys: a tabulated list, and the test of the keys below the count. Assumes nothing.
-use mathlib.Core.Path.{_≡_, refl, sym, ap, _∙_}
+use mathlib.Core.Path.{_≡_, refl, sym}
 use mathlib.Core.Bool.{Bool, _||_}
 use mathlib.Core.Logic.{⊎-elim}
-use mathlib.Core.List.{List}
 use Prim.Native.Nat.{ℕ, zero, suc, _<_, _≤_}
 use native.Mathlib.Decide.{decLt}
 use native.Mathlib.Omega.{arith}
 use lib.Dec.{T, leb, ltb, le→leb}
-use lib.ListN.{length, getD}
-use lib.Seq.{ext-getD}
 use mir.Facts.{or-yes, leb-yes}
 use Rattle.vector.specs.Vec.{allBelow}
-use Rattle.vector.specs.Entries.{entry}
-use Rattle.vector.proofs.Entries.{Agree}
 use Rattle.vector.proofs.Vec.{all-below-at, all-below}
 use Rattle.vector.proofs.Tests.{yes-or-l, yes-or-r}
 use Rattle.protocol.specs.Needs.{keysLawful}

@@ -3,9 +3,9 @@
 use mathlib.Core.Path.{_≡_, refl, sym, ap, _∙_}
 use mathlib.Core.Bool.{Bool, true, false, not, _&&_, _||_, and-true, and-assoc}
 use mathlib.Core.List.{List}
-use Prim.Native.Nat.{ℕ, zero, suc, _-_, _+_, _<_, _≤_}
+use Prim.Native.Nat.{ℕ, _-_, _+_, _<_, _≤_}
 use native.Mathlib.Omega.{arith}
-use lib.Dec.{T, ltb, leb}
+use lib.Dec.{ltb, leb}
 use lib.ListN.{length, getD}
 use mir.Facts.{and-yes, leb-yes, ltb-yes}
 use Rattle.codec.specs.Le.{load}

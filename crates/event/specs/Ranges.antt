@@ -1,7 +1,7 @@
 -- Refusal 11 as the code tests it, field by field: each field's range, and a field that is in its range where it is used and zero where it is
 -- not. That this is `unusedZero` with the protocol's `ranges` is proved in proofs/Ranges. Assumes nothing.
 use Prim.Native.Nat.{ℕ, _-_, _^_}
-use mathlib.Core.Bool.{Bool, true, false, cond, not, _&&_, _||_}
+use mathlib.Core.Bool.{Bool, false, cond, not, _&&_, _||_}
 use mathlib.Core.List.{List, [], _∷_}
 use lib.Dec.{leb, ltb, eqb}
 use lib.ListN.{getD}
