@@ -32,8 +32,10 @@ inRange c x =
     ∷ keysBelow (x .keys) (x .count)
     ∷ []
 
+-- the field f of the code row + 1, where `within` has each field's test
 unfoldable pub fieldLawful : List ℕ → List Bool → (row f : ℕ) → Bool
 fieldLawful e within row f = cond (uses row f) (getD within f false) (zeroAt e (startOf f) (sizeOf f))
 
+-- all ten fields, page keys beyond the count, and bytes 28 to 31
 unfoldable pub fieldsLawful : Setting → List ℕ → Bool
 fieldsLawful c e = allBelow 10 (fieldLawful e (inRange c (fieldsIn e)) (load 1 e 0 - 1)) && (restZero e && zeroAt e 28 4)
