@@ -3,3 +3,4 @@ pub mod Call
 pub mod Run
 pub mod Story
 pub mod Promises
+pub mod Influence

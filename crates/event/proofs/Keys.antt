@@ -20,7 +20,7 @@ use Rattle.table.specs.Tabulate.{tabulate}
 use Rattle.event.specs.Event.{keysOf}
 use Rattle.event.specs.Ranges.{keysBelow}
 use Rattle.event.proofs.Tests.{same-tests, and-behind, allBelow-front}
-use Rattle.event.proofs.Tabulate.{length-tabulate, getD-tabulate}
+use Rattle.table.proofs.Tabulate.{tab-length, tab-at}
 
 keysLawful-tabulate : (n : ℕ) (f : ℕ → ℕ) → keysLawful (tabulate n f) ≡ allBelow n (λ i. ltb (f i) 64)
 unfolding keysLawful tabulate
@@ -45,14 +45,14 @@ below-count n count f h =
 
 pub length-keysOf : (e : List ℕ) → length (keysOf e) ≡ load 1 e 7
 unfolding keysOf
-length-keysOf e = length-tabulate (load 1 e 7) (λ i. load 1 e (20 + i))
+length-keysOf e = tab-length (load 1 e 7) (λ i. load 1 e (20 + i))
 
 keysBelow-lawful : (e : List ℕ) → load 1 e 7 ≤ 8 → keysBelow (tabulate 8 (λ i. load 1 e (20 + i))) (load 1 e 7) ≡ keysLawful (keysOf e)
 unfolding keysBelow keysOf
 keysBelow-lawful e h =
     let n = load 1 e 7 in
     let f : ℕ → ℕ = λ i. load 1 e (20 + i) in
-    allBelow-ext 8 _ _ (λ i b. rw (getD-tabulate 8 f 0 i b)) ∙ below-count 8 n (λ i. ltb (f i) 64) h ∙ sym (keysLawful-tabulate n f)
+    allBelow-ext 8 _ _ (λ i b. rw (tab-at 8 f 0 i b)) ∙ below-count 8 n (λ i. ltb (f i) 64) h ∙ sym (keysLawful-tabulate n f)
 
 -- a count beyond 8 is out of range, whatever the keys are
 pub count-keys : (e : List ℕ)

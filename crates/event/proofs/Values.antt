@@ -19,7 +19,7 @@ use Rattle.event.specs.Event.{codeLawful, keysOf, eventOf, met}
 use Rattle.event.specs.Values.{fieldsIn, keysFrom, eventFor, eventFrom}
 use Rattle.event.specs.Ranges.{inRange, fieldLawful, fieldsLawful}
 use Rattle.event.proofs.Tests.{choice-yes, choice-first}
-use Rattle.event.proofs.Tabulate.{getD-tabulate, tabulate-ext}
+use Rattle.table.proofs.Tabulate.{tab-at, tab-ext}
 use Rattle.event.proofs.Ranges.{fields-lawful}
 
 module _ (c : Setting) (e : List ℕ) where
@@ -48,7 +48,7 @@ module _ (c : Setting) (e : List ℕ) where
 
 keysFrom-fieldsIn : (e : List ℕ) → load 1 e 7 ≤ 8 → keysFrom (fieldsIn e) ≡ keysOf e
 unfolding keysFrom fieldsIn keysOf
-keysFrom-fieldsIn e h = tabulate-ext (load 1 e 7) _ _ (λ i b. getD-tabulate 8 (λ i. load 1 e (20 + i)) 0 i (omega arith))
+keysFrom-fieldsIn e h = tab-ext (load 1 e 7) _ _ (λ i b. tab-at 8 (λ i. load 1 e (20 + i)) 0 i (omega arith))
 
 pub eventFrom-fieldsIn : (c : Setting) (e : List ℕ) → Lawful c e → eventFrom (fieldsIn e) ≡ eventOf e
 unfolding eventFrom eventOf fieldsIn
