@@ -1,6 +1,6 @@
 -- The theorems carried to the bytes. In order: what a table that setup and steps have led to is (`Reached`), one call of `step` on it, any list of event
 -- byte strings as a list of the protocol's events, and the promises. Assumes nothing.
-use Prim.Native.Nat.{ℕ, _+_, _<_, _≤_}
+use Prim.Native.Nat.{ℕ, _+_, _≤_}
 use native.Mathlib.Nat.{zero-add}
 use native.Mathlib.Omega.{arith}
 use mathlib.Core.Path.{_≡_, refl, sym, ap, ap₂, subst, _∙_}
@@ -9,18 +9,18 @@ use mathlib.Core.Bool.{Bool, true, false, cond, not, _&&_}
 use mathlib.Core.List.{List, [], _∷_}
 use lib.Dec.{T, eqb, ltb, leb}
 use lib.ListN.{length}
-use mir.Facts.{T-not, and-yes, yes-and, leb-yes, ltb-yes}
+use mir.Facts.{T-not, and-yes, yes-and, leb-yes}
 use Rattle.codec.specs.Le.{Bytes}
 use Rattle.vector.specs.Vec.{width}
 use Rattle.vector.proofs.Tests.{cond-elim, yes-eqb}
 use Rattle.protocol.specs.Record.{Setting}
 use Rattle.protocol.specs.State.{Net, State, setup}
-use Rattle.protocol.specs.Event.{Event, GET, plain, numberOf}
+use Rattle.protocol.specs.Event.{Event, plain, numberOf}
 use Rattle.protocol.specs.declared.Answer.{Answer}
-use Rattle.protocol.specs.declared.Answer.the-variants.{Done, Stamped, Value, Nothing, Refused}
-use Rattle.protocol.specs.Step.{step, next, after, Line, log}
+use Rattle.protocol.specs.declared.Answer.the-variants.{Refused}
+use Rattle.protocol.specs.Step.{step, next, after, log}
 use Rattle.protocol.specs.Past.{served, history}
-use Rattle.protocol.specs.Causal.{GetCausal, PageCausal}
+use Rattle.protocol.specs.Causal.{GetCausal}
 use Rattle.protocol.specs.Count.{puts, delivers, count, waiting}
 use Rattle.protocol.proofs.Causal as Protocol
 use Rattle.protocol.proofs.Conserve.{conserved}
@@ -36,7 +36,8 @@ use Rattle.lawful.specs.Values.{settingLawful}
 use Rattle.lawful.specs.WellFormed.{wellFormed}
 use Rattle.event.specs.Event.{codeLawful, eventOf}
 use Rattle.event.specs.Fields.{unusedZero}
-use Rattle.archive.specs.Call.{Called, gives, refused, need, stepOn, stepCall, setupCall}
+use Rattle.steps.specs.Step.{Called, gives, refused, stepOn}
+use Rattle.archive.specs.Call.{stepCall, setupCall}
 use Rattle.archive.specs.Story.{isEvent, tableAfter, linesOf, countOf}
 use Rattle.archive.specs.Promises.{setUp, CausalGet, CausalPage, Conserved, NeverIll}
 

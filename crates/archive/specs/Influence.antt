@@ -13,7 +13,8 @@ use Rattle.table.specs.Channel.{frontIn, waitIn}
 use Rattle.table.specs.Decode.{decode}
 use Rattle.lawful.specs.WellFormed.{wellFormed}
 use Rattle.event.specs.Event.{eventOf}
-use Rattle.archive.specs.Call.{Called, stepCall}
+use Rattle.steps.specs.Step.{Called}
+use Rattle.archive.specs.Call.{stepCall}
 
 -- where the next message goes, in each outgoing channel of site m
 unfoldable pub NextAlike : List ℕ → List ℕ → (m : ℕ) → Type 0

@@ -7,7 +7,7 @@ use lib.Dec.{T}
 use lib.ListN.{length}
 use Rattle.protocol.specs.Record.{Setting}
 use Rattle.protocol.specs.Event.{GET, plain}
-use Rattle.protocol.specs.declared.Answer.the-variants.{Done, Refused}
+use Rattle.protocol.specs.declared.Answer.the-variants.{Refused}
 use Rattle.protocol.specs.Past.{history}
 use Rattle.protocol.specs.Causal.{GetCausal, PageCausal}
 use Rattle.protocol.specs.Count.{puts, delivers, waiting}
