@@ -10,3 +10,6 @@ pub mod LetterBytes
 pub mod NodeBytes
 pub mod ChannelBytes
 pub mod SessionBytes
+pub mod Changes
+pub mod Decode
+pub mod Fresh

@@ -2,16 +2,20 @@
 -- change of one keeps the length of the whole, what each thing of the kind is after it, and that things of another kind are as they were.
 -- Assumes nothing.
 use Prim.Native.Nat.{ℕ, _+_, _*_, _≤_, _<_}
+use native.Mathlib.Decide.{decLt}
 use native.Mathlib.Omega.{arith}
-use mathlib.Core.Path.{_≡_, refl, ap, subst}
+use mathlib.Core.Path.{_≡_, refl, ap, _∙_}
 use mathlib.Core.Logic.{⊎-elim}
 use mathlib.Core.Bool.{Bool, true, false, cond, not, _&&_}
 use mathlib.Core.List.{List, []}
 use lib.Dec.{T, ltb, eqb, lt→ltb}
-use lib.ListN.{length}
-use mir.Facts.{and-yes, yes-and, and-no, ltb-yes, eqb-yes, eqb-no}
+use lib.ListN.{length, getD, drop, length-take, List·getD-eq-default}
+use lib.Seq.{getD-take, getD-drop}
+use mir.Syntax.{w8}
+use mir.Val.{Fits}
+use mir.Facts.{fits-lit, and-yes, yes-and, and-no, ltb-yes, eqb-yes, eqb-no}
 use borrow.Author.Tests.{lt-ltb, le-ltb}
-use Rattle.codec.specs.Le.{load, Apart}
+use Rattle.codec.specs.Le.{load, Bytes, Apart}
 use Rattle.codec.specs.Part.{partOf, onPart, Keeps}
 use Rattle.codec.proofs.Le.{load-ext}
 use Rattle.codec.proofs.Part.{length-part, length-onPart, getD-onPart, part-onPart, part-other}
@@ -158,3 +162,70 @@ module _ (s : List ℕ) (p d : ℕ) (f : List ℕ → List ℕ) (l : length s �
   node-onChannel q =
       part-elsewhere (channelAt p d) 464 f s (omega arith) keeps (ltb q 4) (nodeAt q) 1856
       (λ b. let g : q < 4 = ltb-yes b in (omega arith, λ k u v x y. omega arith))
+
+-- ---- what holds of each byte of the whole, and of 0, holds of each byte of a part
+
+abbrev pub Every : (ℕ → Type 0) → List ℕ → Type 0
+Every P s = (i : ℕ) → P (getD s i 0)
+
+module _ (P : ℕ → Type 0) (none : P 0) where
+  part-every : (off k : ℕ) (t : List ℕ) → ((i : ℕ) → P (getD t (off + i) 0)) → Every P (partOf off k t)
+  part-every off k t all i = go (decLt i k)
+    where
+      go : Dec (i < k) → P (getD (partOf off k t) i 0)
+      go (yes b) = rw (getD-take k (drop off t) i 0 b, getD-drop off t i 0) (all i)
+      go (no b) = rw (List·getD-eq-default (partOf off k t) 0 {n = i} (omega (arith, length-take k (drop off t)))) none
+
+  every-if : (b : Bool) (s : List ℕ) → Every P s → Every P (cond b s [])
+  every-if true s all = all
+  every-if false s all = λ i. none
+
+  pub every-session : (t : List ℕ) (s : ℕ) → ((i : ℕ) → 128 ≤ i → P (getD t i 0)) → Every P (sessionOf t s)
+  unfolding sessionOf
+  every-session t s all =
+      every-if (ltb s 16) (partOf (sessionAt s) 128 t) (part-every (sessionAt s) 128 t (λ i. all (sessionAt s + i) (omega arith)))
+
+  pub every-site : (t : List ℕ) (m : ℕ) → ((i : ℕ) → 4096 ≤ i → P (getD t i 0)) → Every P (siteOf t m)
+  unfolding siteOf
+  every-site t m all = every-if (ltb m 4) (partOf (siteAt m) 13056 t) (part-every (siteAt m) 13056 t (λ i. all (siteAt m + i) (omega arith)))
+
+  pub every-node : (s : List ℕ) (p : ℕ) → Every P s → Every P (nodeOf s p)
+  unfolding nodeOf
+  every-node s p all = every-if (ltb p 4) (partOf (nodeAt p) 1856 s) (part-every (nodeAt p) 1856 s (λ i. all (nodeAt p + i)))
+
+  pub every-channel : (s : List ℕ) (p d : ℕ) → Every P s → Every P (channelOf s p d)
+  unfolding channelOf
+  every-channel s p d all =
+      every-if (ltb p 4 && ltb d 3) (partOf (channelAt p d) 464 s) (part-every (channelAt p d) 464 s (λ i. all (channelAt p d + i)))
+
+-- ---- the parts of a table of bytes are bytes
+
+module _ (t : List ℕ) (bytes : Bytes t) where
+  bytes-site : (m : ℕ) → Bytes (siteOf t m)
+  bytes-site m = every-site (Fits w8) (fits-lit tt) t m (λ i b. bytes i)
+
+  pub bytes-nodeOf : (m p : ℕ) → Bytes (nodeOf (siteOf t m) p)
+  bytes-nodeOf m p = every-node (Fits w8) (fits-lit tt) (siteOf t m) p (bytes-site m)
+
+  pub bytes-channelOf : (m p d : ℕ) → Bytes (channelOf (siteOf t m) p d)
+  bytes-channelOf m p d = every-channel (Fits w8) (fits-lit tt) (siteOf t m) p d (bytes-site m)
+
+-- ---- nodes and channels of the whole table
+
+module _ (t : List ℕ) (m p : ℕ) (l : length t ≡ tableLength) (h : m < 4) (h′ : p < 4) where
+  pub length-nodeOf : length (nodeOf (siteOf t m) p) ≡ 1856
+  length-nodeOf = length-node (siteOf t m) p (length-site t m l h) h′
+
+  pub length-channelOf : (d : ℕ) → d < 3 → length (channelOf (siteOf t m) p d) ≡ 464
+  length-channelOf d h″ = length-channel (siteOf t m) p d (length-site t m l h) h′ h″
+
+-- what X reads of a site after g was done to site m
+pub read-onSite {ℓ} : {A : Type ℓ} (X : List ℕ → A) (t : List ℕ) (m : ℕ) (g : List ℕ → List ℕ) → length t ≡ tableLength → m < 4 → Keeps 13056 g → (j : ℕ) (u : A)
+    → (length (siteOf t j) ≡ 13056 → X (g (siteOf t j)) ≡ u) → X (siteOf (onSite m g t) j) ≡ cond (eqb j m) u (X (siteOf t j))
+read-onSite X t m g l h keeps j u e =
+    ap X (site-onSite t m g l h keeps j)
+    ∙ go (eqb j m) (λ q. let r : j ≡ m = eqb-yes q in e (length-site t j l (omega arith)))
+  where
+    go : (b : Bool) → (T b → X (g (siteOf t j)) ≡ u) → X (cond b (g (siteOf t j)) (siteOf t j)) ≡ cond b u (X (siteOf t j))
+    go true f = f tt
+    go false f = refl
