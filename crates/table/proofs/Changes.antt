@@ -1,5 +1,5 @@
--- The table's parts after each change. In order: choices, places of channels, a site that sends, then the nodes and channels of the table after a
--- change of one node, of one channel, and of a node that publishes. Assumes nothing.
+-- The table's parts after each change. In order: choices, places of channels, which channels a change is done to, a site that sends, then the nodes
+-- and channels of the table after a change of one node, of one channel, and after a node published. Assumes nothing.
 use Prim.Native.Nat.{ℕ, zero, suc, _-_, _≤_, _<_}
 use native.Mathlib.Decide.{ℕ-discrete, decLt}
 use native.Mathlib.Omega.{arith}

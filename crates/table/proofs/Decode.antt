@@ -1,32 +1,32 @@
--- What a table says after a change is what the change makes of what it said. In order: lengths and the setting, the state field by field, each
--- change, many changes, and a fresh setup. Assumes nothing.
-use Prim.Native.Nat.{ℕ, zero, suc, _+_, _-_, _≤_, _<_}
+-- What a table says after a change is what the change makes of what it said. In order: the state field by field, each of the four changes, then the
+-- laws for any change and for many. That changes keep bytes is in Bytes; a fresh table is in Fresh. Assumes nothing.
+use Prim.Native.Nat.{ℕ, _-_, _≤_, _<_}
 use native.Mathlib.Omega.{arith}
-use mathlib.Core.Path.{_≡_, refl, sym, ap, subst, _∙_}
+use mathlib.Core.Path.{_≡_, refl, sym, ap, _∙_}
 use mathlib.Core.Bool.{Bool, true, false, cond, not, _&&_}
 use mathlib.Core.List.{List, [], _∷_, _++_, tail}
 use lib.Dec.{T, ltb, eqb, lt→ltb}
-use lib.ListN.{length, getD, replicate}
-use mir.Facts.{T-not, and-yes, yes-and, ltb-yes, eqb-yes, eqb-no, yes-eqb, no-eqb}
-use Rattle.codec.specs.Le.{load, put, span, Bytes}
+use lib.ListN.{length}
+use mir.Facts.{T-not, and-yes, yes-and, ltb-yes, eqb-yes, eqb-no, no-eqb}
+use Rattle.codec.specs.Le.{load}
 use Rattle.codec.specs.Part.{Keeps}
 use Rattle.vector.specs.Vec.{withEntry, atLeast}
-use Rattle.protocol.specs.Record.{Setting, Rec, Msg, stampIn, recordsIn}
-use Rattle.protocol.specs.State.{Session, Net, State, setup}
+use Rattle.protocol.specs.Record.{Msg, stampIn, recordsIn}
+use Rattle.protocol.specs.State.{Session, State}
 use Rattle.protocol.specs.Change.{Change, SetSession, SetClock, Publish, Receive, upd, at, setClock, publish, receive, apply, applyAll}
-use Rattle.table.specs.Parts.{tableLength, placeOf, sessionOf, siteOf, nodeOf, channelOf, onSession, onSite, onNode, onChannel}
+use Rattle.table.specs.Parts.{tableLength, placeOf, sessionOf, siteOf, nodeOf, channelOf, onSite, onNode, onChannel}
 use Rattle.table.specs.Node.{clockIn, heardIn, storeIn, clockSet, published, received}
-use Rattle.table.specs.Channel.{waitIn, queueIn, pushed, popped}
+use Rattle.table.specs.Channel.{queueIn, pushed, popped}
 use Rattle.table.specs.Session.{sessionIn, putSession}
 use Rattle.table.specs.Decode.{settingIn, decode}
-use Rattle.table.specs.Put.{publishedOn, putChange, putChanges, fresh}
-use Rattle.table.specs.Fits.{FitsSession, FitsPublish, FitsReceive, Fits, FitsAll}
+use Rattle.table.specs.Put.{publishedOn, putChange, putChanges}
+use Rattle.table.specs.Fits.{FitsPublish, FitsReceive, Fits, FitsAll}
 use Rattle.table.proofs.Lengths.{length-clockSet, length-received, length-popped, length-putSession}
 use Rattle.table.proofs.Parts.{length-session, length-onSession, session-onSession, site-onSession, load-onSession, length-onSite, session-onSite, load-onSite, bytes-nodeOf, bytes-channelOf, length-nodeOf, length-channelOf}
 use Rattle.table.proofs.NodeBytes.{clock-clockSet, heard-clockSet, store-clockSet, clock-published, heard-published, store-published, clock-received, heard-received, store-received}
 use Rattle.table.proofs.ChannelBytes.{queue-pushed, queue-popped}
 use Rattle.table.proofs.SessionBytes.{session-putSession}
-use Rattle.table.proofs.Changes.{same-test, cond-no, cond-both, at-yes, sent, sentBy, sentBy-yes, sent-sentBy, taken, takenFrom, taken-takenFrom, place-lt, onNode-keeps, node-atNode, channel-atNode, onChannel-keeps, node-atChannel, channel-atChannel, publishedOn-keeps, node-atPublish, channel-atPublish}
+use Rattle.table.proofs.Changes.{cond-no, cond-both, at-yes, sent, sentBy, sentBy-yes, sent-sentBy, taken, takenFrom, taken-takenFrom, place-lt, onNode-keeps, node-atNode, channel-atNode, onChannel-keeps, node-atChannel, channel-atChannel, publishedOn-keeps, node-atPublish, channel-atPublish}
 
 -- ---- a change keeps a thing's length
 
@@ -234,7 +234,7 @@ module _ (m p : ℕ) (x : Msg) (t : List ℕ) (l : length t ≡ tableLength) (fi
       (channel-atPublish t (load 1 t 0 - 1) m p x l there (fit .part) few) sends (λ i j q w. sent-sentBy (load 1 t 0) m p i j q (fit .site) (way-yes i j w .1)) sends-none)
       (sessions-site t m (publishedOn (load 1 t 0 - 1) m p x) l there keeps-publish)
 
--- ---- a node receives: `stored t` is the table when the node has the message and the channel has it still
+-- ---- a node receives: first it has the message, then the message leaves the channel
 
 module _ (i m p : ℕ) (x : Msg) (t : List ℕ) (l : length t ≡ tableLength) (fit : FitsReceive i m p x t) where
   near : placeOf i m < 3

@@ -1,14 +1,15 @@
--- A fresh table says what a setup holds: nothing, in the setup's setting. In order: what zeros say, and a table of zeros with its setting put.
+-- A fresh table says what a setup holds: nothing, in the setup's setting. In order: what zeros say, a table of zeros with its setting put, fresh.
 -- `replicate` stays shut: only that all of its elements are 0 is used. Assumes nothing.
 use Prim.Native.Nat.{ℕ, zero, suc, _+_, _*_, _≤_, _<_}
 use native.Mathlib.Decide.{decLt}
 use native.Mathlib.Omega.{arith}
 use mathlib.Core.Path.{_≡_, refl, ap, _∙_, fun-ext}
-use mathlib.Core.Bool.{cond, not, _&&_}
+use mathlib.Core.Bool.{not, _&&_}
 use mathlib.Core.List.{List, []}
 use lib.Dec.{ltb, eqb}
 use lib.ListN.{length, getD, replicate, length-replicate, getD-replicate, List·getD-eq-default}
-use Rattle.codec.specs.Le.{load, put, span}
+use mir.Facts.{fits-lit}
+use Rattle.codec.specs.Le.{load, put, span, Bytes}
 use Rattle.codec.proofs.Le.{length-put, getD-put-other, load-put, load-put-other}
 use Rattle.vector.specs.Vec.{zeros, width}
 use Rattle.vector.specs.Entries.{loadVec}
@@ -25,6 +26,7 @@ use Rattle.table.specs.Decode.{settingIn, decode}
 use Rattle.table.specs.Put.{fresh}
 use Rattle.table.proofs.Tabulate.{tab-none}
 use Rattle.table.proofs.Parts.{Every, every-session, every-site, every-node, every-channel}
+use Rattle.table.proofs.Bytes.{bytes-put}
 use Rattle.table.proofs.Decode.{state-ext}
 
 abbrev Zero : ℕ → Type 0
@@ -119,3 +121,9 @@ length-fresh c = length-put 1 (put 1 (replicate tableLength 0) 0 (c .sites)) 1 (
 pub decode-fresh : (c : Setting) → c .sites < 256 → c .parts < 256 → decode (fresh c) ≡ setup c
 unfolding fresh
 decode-fresh c h h′ = decode-set (replicate tableLength 0) (blank-replicate tableLength) (length-replicate {A = ℕ} tableLength 0) c h h′
+
+pub bytes-fresh : (c : Setting) → Bytes (fresh c)
+unfolding fresh
+bytes-fresh c =
+    bytes-put 1 (put 1 (replicate tableLength 0) 0 (c .sites)) 1 (c .parts)
+    (bytes-put 1 (replicate tableLength 0) 0 (c .sites) (λ i. rw (blank-replicate tableLength i) (fits-lit tt)))

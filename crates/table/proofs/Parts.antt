@@ -1,7 +1,7 @@
--- The laws of the table's parts: where no two things overlap. In order: any part that is there or not; for each kind of thing its length, that a
--- change of one keeps the length of the whole, what each thing of the kind is after it, and that things of another kind are as they were.
--- Assumes nothing.
-use Prim.Native.Nat.{ℕ, _+_, _*_, _≤_, _<_}
+-- The laws of the table's parts: where no two things overlap. In order: any part that is there or not; for each kind of thing its place and length,
+-- that a change of one keeps the length of the whole, what each thing of the kind is after it, and that things of another kind are as they were;
+-- what holds of each byte; and nodes and channels of the whole table. Assumes nothing.
+use Prim.Native.Nat.{ℕ, _+_, _≤_, _<_}
 use native.Mathlib.Decide.{decLt}
 use native.Mathlib.Omega.{arith}
 use mathlib.Core.Path.{_≡_, refl, ap, _∙_}
@@ -51,9 +51,16 @@ numbered at k n t fit apart m f h keeps j =
 
 -- ---- sessions
 
-pub length-session : (t : List ℕ) (s : ℕ) → length t ≡ tableLength → s < 16 → length (sessionOf t s) ≡ 128
+pub session-is : (t : List ℕ) (s : ℕ) → s < 16 → sessionOf t s ≡ partOf (sessionAt s) 128 t
 unfolding sessionOf
-length-session t s l h = rw (lt-ltb s 16 h) (length-part (sessionAt s) 128 t (omega arith))
+session-is t s h = rw (lt-ltb s 16 h)
+
+pub session-none : (t : List ℕ) (s : ℕ) → 16 ≤ s → sessionOf t s ≡ []
+unfolding sessionOf
+session-none t s h = rw (le-ltb s 16 h)
+
+pub length-session : (t : List ℕ) (s : ℕ) → length t ≡ tableLength → s < 16 → length (sessionOf t s) ≡ 128
+length-session t s l h = rw (session-is t s h) (length-part (sessionAt s) 128 t (omega arith))
 
 module _ (t : List ℕ) (s : ℕ) (f : List ℕ → List ℕ) (l : length t ≡ tableLength) (h : s < 16) (keeps : Keeps 128 f) where
   pub length-onSession : length (onSession s f t) ≡ length t
@@ -77,9 +84,16 @@ module _ (t : List ℕ) (s : ℕ) (f : List ℕ → List ℕ) (l : length t ≡ 
 
 -- ---- sites
 
-pub length-site : (t : List ℕ) (m : ℕ) → length t ≡ tableLength → m < 4 → length (siteOf t m) ≡ 13056
+pub site-is : (t : List ℕ) (m : ℕ) → m < 4 → siteOf t m ≡ partOf (siteAt m) 13056 t
 unfolding siteOf
-length-site t m l h = rw (lt-ltb m 4 h) (length-part (siteAt m) 13056 t (omega arith))
+site-is t m h = rw (lt-ltb m 4 h)
+
+pub site-none : (t : List ℕ) (m : ℕ) → 4 ≤ m → siteOf t m ≡ []
+unfolding siteOf
+site-none t m h = rw (le-ltb m 4 h)
+
+pub length-site : (t : List ℕ) (m : ℕ) → length t ≡ tableLength → m < 4 → length (siteOf t m) ≡ 13056
+length-site t m l h = rw (site-is t m h) (length-part (siteAt m) 13056 t (omega arith))
 
 module _ (t : List ℕ) (m : ℕ) (f : List ℕ → List ℕ) (l : length t ≡ tableLength) (h : m < 4) (keeps : Keeps 13056 f) where
   pub length-onSite : length (onSite m f t) ≡ length t
@@ -103,9 +117,16 @@ module _ (t : List ℕ) (m : ℕ) (f : List ℕ → List ℕ) (l : length t ≡ 
 
 -- ---- nodes of a site
 
-pub length-node : (s : List ℕ) (p : ℕ) → length s ≡ 13056 → p < 4 → length (nodeOf s p) ≡ 1856
+pub node-is : (s : List ℕ) (p : ℕ) → p < 4 → nodeOf s p ≡ partOf (nodeAt p) 1856 s
 unfolding nodeOf
-length-node s p l h = rw (lt-ltb p 4 h) (length-part (nodeAt p) 1856 s (omega arith))
+node-is s p h = rw (lt-ltb p 4 h)
+
+pub node-none : (s : List ℕ) (p : ℕ) → 4 ≤ p → nodeOf s p ≡ []
+unfolding nodeOf
+node-none s p h = rw (le-ltb p 4 h)
+
+pub length-node : (s : List ℕ) (p : ℕ) → length s ≡ 13056 → p < 4 → length (nodeOf s p) ≡ 1856
+length-node s p l h = rw (node-is s p h) (length-part (nodeAt p) 1856 s (omega arith))
 
 module _ (s : List ℕ) (p : ℕ) (f : List ℕ → List ℕ) (l : length s ≡ 13056) (h : p < 4) (keeps : Keeps 1856 f) where
   pub length-onNode : length (onNode p f s) ≡ length s
@@ -127,9 +148,12 @@ module _ (s : List ℕ) (p : ℕ) (f : List ℕ → List ℕ) (l : length s ≡ 
 
 -- ---- channels of a site
 
-pub length-channel : (s : List ℕ) (p d : ℕ) → length s ≡ 13056 → p < 4 → d < 3 → length (channelOf s p d) ≡ 464
+pub channel-is : (s : List ℕ) (p d : ℕ) → p < 4 → d < 3 → channelOf s p d ≡ partOf (channelAt p d) 464 s
 unfolding channelOf
-length-channel s p d l h h′ = rw (lt-ltb p 4 h, lt-ltb d 3 h′) (length-part (channelAt p d) 464 s (omega arith))
+channel-is s p d h h′ = rw (lt-ltb p 4 h, lt-ltb d 3 h′)
+
+pub length-channel : (s : List ℕ) (p d : ℕ) → length s ≡ 13056 → p < 4 → d < 3 → length (channelOf s p d) ≡ 464
+length-channel s p d l h h′ = rw (channel-is s p d h h′) (length-part (channelAt p d) 464 s (omega arith))
 
 module _ (s : List ℕ) (p d : ℕ) (f : List ℕ → List ℕ) (l : length s ≡ 13056) (h : p < 4) (h′ : d < 3) (keeps : Keeps 464 f) where
   pub length-onChannel : length (onChannel p d f s) ≡ length s
@@ -169,7 +193,7 @@ abbrev pub Every : (ℕ → Type 0) → List ℕ → Type 0
 Every P s = (i : ℕ) → P (getD s i 0)
 
 module _ (P : ℕ → Type 0) (none : P 0) where
-  part-every : (off k : ℕ) (t : List ℕ) → ((i : ℕ) → P (getD t (off + i) 0)) → Every P (partOf off k t)
+  pub part-every : (off k : ℕ) (t : List ℕ) → ((i : ℕ) → P (getD t (off + i) 0)) → Every P (partOf off k t)
   part-every off k t all i = go (decLt i k)
     where
       go : Dec (i < k) → P (getD (partOf off k t) i 0)
