@@ -1,5 +1,6 @@
 -- The facts of a well-formed table. In order: those of a session, a node, a channel, and the table, each with the test that they follow from and
--- give back (`formed`, `well-formed`); then what the table says is lawful, as the facts of proofs/Values. Assumes nothing.
+-- give back (`formed`, `well-formed`); then what the table says is lawful
+-- (`says-lawful`). Assumes nothing.
 use Prim.Native.Nat.{ℕ, zero, suc, _+_, _-_, _^_, _≤_, _<_}
 use native.Mathlib.Omega.{arith}
 use mathlib.Core.Path.{_≡_, sym, subst}
@@ -34,7 +35,7 @@ use Rattle.table.proofs.Parts.{every-session}
 use Rattle.table.proofs.Changes.{place-lt}
 use Rattle.lawful.specs.Values.{settingLawful, timeLawful, vecLawful, recordLawful, messageLawful, sessionLawful}
 use Rattle.lawful.specs.WellFormed.{flagsAt, sessionFormed, recordFormed, beatFormed, messageFormed, nodeFormed, channelFormed, siteFormed, wellFormed}
-use Rattle.lawful.proofs.Values.{ShortMsg, LawfulVec, vec-facts, LawfulRec, record-facts, LawfulMsg, message-facts, page-facts, LawfulSession, session-facts}
+use Rattle.lawful.proofs.Values.{ShortMsg, LawfulVec, vec-facts, LawfulRec, record-facts, LawfulMsg, message-facts, page-facts, LawfulSession, session-facts, LawfulState}
 
 -- ---- a session
 
@@ -245,30 +246,30 @@ cond-le : (b : Bool) (k n : ℕ) → n ≤ cond b k 0 → n ≤ k
 cond-le true k n h = h
 cond-le false k n h = omega arith
 
+pub store-length : (t : List ℕ) (m p : ℕ) → length (decode t .net .store m p) ≡ heldIn (nodeOf (siteOf t m) p)
+unfolding decode storeIn
+store-length t m p = tab-length (heldIn (nodeOf (siteOf t m) p)) (λ k. recordAt (nodeOf (siteOf t m) p) (slotAt k))
+
 module _ (t : List ℕ) (F : Formed t) where
-  pub session-said : Bytes t → (s : ℕ) → s < 16 → LawfulSession (settingIn t) (decode t .session s)
+  session-said : Bytes t → (s : ℕ) → s < 16 → LawfulSession (settingIn t) (decode t .session s)
   unfolding decode
   session-said bytes s h =
       session-read (settingIn t) (sessionOf t s) (every-session (Fits w8) (fits-lit tt) t s (λ i b. bytes i)) (F .session s h .lawful)
 
   module _ (m p : ℕ) (h : m < 4) (g : p < 4) where
-    pub clock-said : decode t .net .clock m p < 2 ^ 48
+    clock-said : decode t .net .clock m p < 2 ^ 48
     unfolding decode timeLawful
     clock-said = ltb-yes (F .node m p h g .clock)
 
-    pub heard-said : LawfulVec (settingIn t) (decode t .net .heard m p)
+    heard-said : LawfulVec (settingIn t) (decode t .net .heard m p)
     unfolding decode heardIn
     heard-said = vec-facts (settingIn t) (heardIn (nodeOf (siteOf t m) p)) (F .node m p h g .heard) (loadVec-beyond (nodeOf (siteOf t m) p) 8)
 
-    pub store-length : length (decode t .net .store m p) ≡ heldIn (nodeOf (siteOf t m) p)
-    unfolding decode storeIn
-    store-length = tab-length (heldIn (nodeOf (siteOf t m) p)) (λ k. recordAt (nodeOf (siteOf t m) p) (slotAt k))
-
-    pub store-most : length (decode t .net .store m p) ≤ 32
+    store-most : length (decode t .net .store m p) ≤ 32
     store-most =
-        omega (arith, store-length, cond-le (ltb m (settingIn t .sites) && ltb p (settingIn t .parts)) 32 (heldIn (nodeOf (siteOf t m) p)) (F .node m p h g .held))
+        omega (arith, store-length t m p, cond-le (ltb m (settingIn t .sites) && ltb p (settingIn t .parts)) 32 (heldIn (nodeOf (siteOf t m) p)) (F .node m p h g .held))
 
-    pub store-said : (r : Rec) → r ∈ decode t .net .store m p → LawfulRec (settingIn t) p r
+    store-said : (r : Rec) → r ∈ decode t .net .store m p → LawfulRec (settingIn t) p r
     unfolding decode storeIn
     store-said =
         let n = nodeOf (siteOf t m) p in
@@ -284,7 +285,7 @@ module _ (t : List ℕ) (F : Formed t) where
         let both = and-yes (ltb m 4) (not (eqb i m)) b in
         some (placeOf i m) (place-lt 4 i m h (ltb-yes (both .0)) (eqb-no (both .1)))) (λ b. none)
 
-    pub chan-most : length (decode t .net .chan i m p) ≤ 8
+    chan-most : length (decode t .net .chan i m p) ≤ 8
     unfolding queueIn
     chan-most =
         way (λ q. length q ≤ 8) (omega arith)
@@ -293,10 +294,25 @@ module _ (t : List ℕ) (F : Formed t) where
         let c = settingIn t in
         omega (arith, tab-length (waitIn w) (λ k. messageAt w (ringAt (frontIn w) k)), cond-le ((ltb i (c .sites) && ltb p (c .parts)) && ltb d (c .sites - 1)) 8 (waitIn w) (F .channel i p d h g b .wait)))
 
-    pub chan-said : (x : Msg) → x ∈ decode t .net .chan i m p → LawfulMsg (settingIn t) i p x
+    chan-said : (x : Msg) → x ∈ decode t .net .chan i m p → LawfulMsg (settingIn t) i p x
     unfolding queueIn
     chan-said =
         way (λ q. (x : Msg) → x ∈ q → LawfulMsg (settingIn t) i p x) (λ x k. absurd (List·Memᴰ·not-nil k))
         (λ d b.
         let w = channelOf (siteOf t i) p d in
         tab-each (LawfulMsg (settingIn t) i p) (waitIn w) (λ k. messageAt w (ringAt (frontIn w) k)) (λ k l. message-read (settingIn t) i p w (ringAt (frontIn w) k) (F .channel i p d h g b .ring k l)))
+
+  pub says-lawful : Bytes t → LawfulState (decode t)
+  unfolding decode
+  says-lawful bytes = record {
+    sites = F .sites;
+    part = F .part;
+    parts = F .parts;
+    session = session-said bytes;
+    clock = clock-said;
+    heard = heard-said;
+    store = store-said;
+    held = store-most;
+    chan = chan-said;
+    wait = chan-most;
+  }

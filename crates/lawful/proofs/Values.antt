@@ -1,4 +1,4 @@
--- Lawful values as facts. In order: tests, a time's bytes, vectors and what raises them, levels, records, messages, pages and sessions. For each kind
+-- Lawful values as facts. In order: tests, a time's bytes, vectors and what raises them, levels, records, messages, pages, sessions, and a state. For each kind
 -- the facts, how they follow from the test and give it back, and that the value fits its bytes. A vector's facts say more than the test: it has no
 -- entry beyond the sites, at any number. Vectors that are read from bytes are so. Assumes nothing.
 use Prim.Native.Nat.{ℕ, zero, suc, _+_, _^_, max, _≤_, _<_}
@@ -19,8 +19,9 @@ use Rattle.vector.specs.Vec.{Vec, width, zeros, withEntry, atLeast, larger, rai
 use Rattle.vector.proofs.Tests.{cond-elim}
 use Rattle.vector.proofs.Vec.{all-below-at, all-below}
 use Rattle.protocol.specs.Record.{Setting, partOf, Rec, Msg, Update, Beat, stampIn}
-use Rattle.protocol.specs.State.{Mark, Page, Session}
+use Rattle.protocol.specs.State.{Mark, Page, Session, State}
 use Rattle.protocol.specs.Needs.{levelLawful, keysLawful, distinct}
+use Rattle.protocol.specs.Past.{_∈_}
 use Rattle.table.specs.Fits.{FitsVec, FitsRec, FitsMsg, FitsMarks, FitsSession}
 use Rattle.lawful.specs.Values.{timeLawful, vecLawful, recordLawful, messageLawful, keysOf, pageLawful, sessionLawful}
 
@@ -292,3 +293,17 @@ module _ (c : Setting) (x : Session) where
     count = X .page .count;
     marks = X .page .keys;
   }
+
+-- ---- a state, where sites and partitions are below 4 and sessions below 16
+
+pub record LawfulState (S : State) : Type 0 where
+  pub sites : S .net .setting .sites ≤ 4
+  pub part : 0 < S .net .setting .parts
+  pub parts : S .net .setting .parts ≤ 4
+  pub session : (s : ℕ) → s < 16 → LawfulSession (S .net .setting) (S .session s)
+  pub clock : (m p : ℕ) → m < 4 → p < 4 → S .net .clock m p < 2 ^ 48
+  pub heard : (m p : ℕ) → m < 4 → p < 4 → LawfulVec (S .net .setting) (S .net .heard m p)
+  pub store : (m p : ℕ) → m < 4 → p < 4 → (r : Rec) → r ∈ S .net .store m p → LawfulRec (S .net .setting) p r
+  pub held : (m p : ℕ) → m < 4 → p < 4 → length (S .net .store m p) ≤ 32
+  pub chan : (i m p : ℕ) → i < 4 → p < 4 → (x : Msg) → x ∈ S .net .chan i m p → LawfulMsg (S .net .setting) i p x
+  pub wait : (i m p : ℕ) → i < 4 → p < 4 → length (S .net .chan i m p) ≤ 8
