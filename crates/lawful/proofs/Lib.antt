@@ -3,3 +3,7 @@ pub mod Values
 pub mod Facts
 pub mod Served
 pub mod Fits
+pub mod LetterFormed
+pub mod NodeFormed
+pub mod ChannelFormed
+pub mod SessionFormed
