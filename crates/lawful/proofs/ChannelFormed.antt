@@ -1,10 +1,9 @@
 -- A channel's bytes stay well formed: when a lawful message goes behind the last, and when the front leaves. Assumes nothing.
 use Prim.Native.Nat.{ℕ, _+_, _-_, _%_, _≤_, _<_}
 use native.Mathlib.Omega.{arith}
-use mathlib.Core.Path.{_≡_, ap, _∙_}
-use mathlib.Core.Bool.{cond, _&&_}
+use mathlib.Core.Path.{_≡_, _∙_}
 use mathlib.Core.List.{List}
-use lib.Dec.{T, ltb}
+use lib.Dec.{T}
 use lib.ListN.{length}
 use borrow.Author.Count.{below-more}
 use borrow.Author.Tests.{lt-ltb}

@@ -11,11 +11,10 @@ use lib.Dec.{T, leb, ltb, eqb}
 use lib.ListN.{length}
 use mir.Syntax.{w8}
 use mir.Val.{Fits}
-use mir.Facts.{fits-lit, and-yes, yes-and, ltb-yes, leb-yes, eqb-yes, eqb-no, yes-ltb, yes-leb}
+use mir.Facts.{fits-lit, and-yes, yes-and, ltb-yes, leb-yes, eqb-no, yes-ltb, yes-leb}
 use Rattle.codec.specs.Le.{load, span, Bytes}
 use Rattle.codec.proofs.Le.{load-lt}
 use Rattle.vector.specs.Vec.{allBelow}
-use Rattle.vector.specs.Entries.{loadVec}
 use Rattle.vector.proofs.Tests.{cond-elim}
 use Rattle.vector.proofs.Vec.{all-below-at, all-below}
 use Rattle.vector.proofs.Entries.{loadVec-beyond}

@@ -9,7 +9,7 @@ use lib.Dec.{T}
 use lib.ListN.{length}
 use borrow.Author.Tests.{lt-ltb, le-ltb, ne-eqb}
 use Rattle.codec.specs.Le.{Bytes}
-use Rattle.protocol.specs.Record.{Setting, Msg, Update, Beat}
+use Rattle.protocol.specs.Record.{Msg, Update, Beat}
 use Rattle.protocol.specs.Event.{Event}
 use Rattle.protocol.specs.Change.{Change, SetSession, SetClock, Publish, Receive}
 use Rattle.protocol.specs.Step.{step}
@@ -56,7 +56,7 @@ room-for t m p (Beat s) room = tt
 
 -- ---- changes
 
-lawful-fits : (c : Change) (t : List ℕ) → settingIn t .sites ≤ 4 → settingIn t .parts ≤ 4 → Bytes t → Lawful c (decode t) → Fits c t
+pub lawful-fits : (c : Change) (t : List ℕ) → settingIn t .sites ≤ 4 → settingIn t .parts ≤ 4 → Bytes t → Lawful c (decode t) → Fits c t
 unfolding decode settingIn
 lawful-fits (SetSession s x) t few few′ bytes ok = (ok .0, session-fits (settingIn t) x few (ok .1))
 lawful-fits (SetClock m p c) t few few′ bytes ok = (omega (arith, ok .0), omega (arith, ok .1), time-fits c (ok .2))

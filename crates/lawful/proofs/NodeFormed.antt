@@ -2,12 +2,11 @@
 -- entry, an update stored behind the others, then its own message and another's. Assumes nothing.
 use Prim.Native.Nat.{ℕ, _+_, _*_, _^_, max, _≤_, _<_}
 use native.Mathlib.Omega.{arith}
-use mathlib.Core.Path.{_≡_, sym, subst, _∙_}
-use mathlib.Core.Bool.{cond, _&&_}
+use mathlib.Core.Path.{_≡_, _∙_}
 use mathlib.Core.List.{List}
-use lib.Dec.{T, ltb}
+use lib.Dec.{T}
 use lib.ListN.{length}
-use mir.Facts.{ltb-yes, yes-ltb}
+use mir.Facts.{yes-ltb}
 use borrow.Author.Count.{below-more}
 use borrow.Author.Tests.{lt-ltb}
 use Rattle.codec.specs.Le.{load, put, span, Apart}
@@ -19,7 +18,7 @@ use Rattle.table.specs.Letter.{putRecord}
 use Rattle.table.specs.Node.{slotAt, clockIn, heardIn, heldIn, clockSet, stored, published, received}
 use Rattle.table.specs.Fits.{RoomFor}
 use Rattle.table.proofs.Lengths.{length-putRecord}
-use Rattle.table.proofs.LetterBytes.{Same, loadVec-ext, load-putRecord-other}
+use Rattle.table.proofs.LetterBytes.{loadVec-ext, load-putRecord-other}
 use Rattle.table.proofs.NodeBytes.{clock-clockSet, heard-clockSet, clock-published, heard-published}
 use Rattle.lawful.specs.Values.{timeLawful, vecLawful}
 use Rattle.lawful.specs.WellFormed.{recordFormed}

@@ -1,11 +1,11 @@
 -- What a step changes is lawful, where what it looks at is. In order: lawful changes, a session, what a page shows and what a message wants, then
 -- every event and every step. Of states alone: no bytes. Assumes nothing.
-use Prim.Native.Nat.{ℕ, _+_, _%_, _^_, _≤_, _<_}
+use Prim.Native.Nat.{ℕ, _^_, _≤_, _<_}
 use native.Mathlib.Nat.{mod-lt}
 use native.Mathlib.Omega.{arith}
-use mathlib.Core.Path.{_≡_, refl, sym, ap, ap₂, subst}
+use mathlib.Core.Path.{_≡_, refl, ap, subst}
 use mathlib.Core.Logic.{⊎-elim}
-use mathlib.Core.Bool.{Bool, true, false, not, _&&_, _||_}
+use mathlib.Core.Bool.{Bool, not, _||_}
 use mathlib.Core.List.{List, [], _∷_, _++_, List·Memᴰ·head}
 use mathlib.Core.Option.{Option, some, none}
 use lib.Dec.{T, leb, ltb, eqb}
@@ -26,7 +26,6 @@ use Rattle.protocol.specs.Step.{decide, step}
 use Rattle.protocol.specs.Past.{_∈_}
 use Rattle.protocol.proofs.Judge.{Met, met-both, judge-elim}
 use Rattle.protocol.proofs.Order.{NewestOf, newest-is}
-use Rattle.table.specs.Fits.{FitsMarks}
 use Rattle.lawful.specs.Values.{keysOf}
 use Rattle.lawful.proofs.Values.{implies, LawfulVec, zeros-lawful, larger-lawful, with-entry-lawful, raised-lawful, LawfulRec, LawfulMsg, LawfulPage, marks-fit, LawfulSession, LawfulState}
 
@@ -70,7 +69,7 @@ module _ (c : Setting) where
   unfolding noPage
   no-page-lawful = record { count = omega arith; keys = tt; used = λ t. absurd t; vec = zeros-lawful c; gathered = zeros-lawful c }
 
-  closed-lawful : LawfulSession c closed
+  pub closed-lawful : LawfulSession c closed
   unfolding closed
   closed-lawful = record { site = omega arith; here = λ t. absurd t; vec = zeros-lawful c; page = no-page-lawful }
 

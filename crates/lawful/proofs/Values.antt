@@ -1,13 +1,12 @@
 -- Lawful values as facts. In order: tests, a time's bytes, vectors and what raises them, levels, records, messages, pages, sessions, and a state. For each kind
 -- the facts, how they follow from the test and give it back, and that the value fits its bytes. A vector's facts say more than the test: it has no
 -- entry beyond the sites, at any number. Vectors that are read from bytes are so. Assumes nothing.
-use Prim.Native.Nat.{ℕ, zero, suc, _+_, _^_, max, _≤_, _<_}
+use Prim.Native.Nat.{ℕ, _^_, _≤_, _<_}
 use native.Mathlib.Decide.{decLt}
 use native.Mathlib.Omega.{arith}
-use mathlib.Core.Path.{_≡_, refl, subst}
+use mathlib.Core.Path.{_≡_, refl}
 use mathlib.Core.Bool.{Bool, true, false, cond, not, _&&_, _||_}
 use mathlib.Core.List.{List, [], _∷_}
-use mathlib.Core.Option.{Option, some, none}
 use lib.Dec.{T, leb, ltb, eqb}
 use lib.IntN.{ℤ, pos, negsuc}
 use lib.ListN.{length}
