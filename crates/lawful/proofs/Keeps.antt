@@ -1,5 +1,5 @@
--- A lawful change keeps a table well formed. In order: a table of the same setting, each change, many changes, and every step (`step-formed`).
--- Assumes nothing.
+-- A lawful change keeps a table well formed. In order: a table of the same setting, a change of one site, node or channel, each change, many changes,
+-- and every step (`step-formed`). Assumes nothing.
 use Prim.Native.Nat.{ℕ, _-_, _≤_, _<_}
 use native.Mathlib.Omega.{arith}
 use mathlib.Core.Path.{_≡_, sym, subst, _∙_}
@@ -8,7 +8,7 @@ use mathlib.Core.List.{List, [], _∷_}
 use lib.Dec.{T, ltb, eqb}
 use lib.ListN.{length}
 use mir.Facts.{and-yes, ltb-yes}
-use Rattle.codec.specs.Le.{load, Bytes}
+use Rattle.codec.specs.Le.{Bytes}
 use Rattle.codec.specs.Part.{Keeps}
 use Rattle.vector.proofs.Tests.{cond-elim}
 use Rattle.protocol.specs.Record.{Msg}
@@ -22,9 +22,9 @@ use Rattle.table.specs.Channel.{pushed, popped}
 use Rattle.table.specs.Session.{putSession}
 use Rattle.table.specs.Decode.{settingIn, decode}
 use Rattle.table.specs.Put.{publishedOn, putChange, putChanges}
-use Rattle.table.specs.Fits.{Fits}
+use Rattle.table.specs.Fits.{FitsPublish, FitsReceive, Fits}
 use Rattle.table.proofs.Lengths.{length-clockSet, length-received, length-popped, length-putSession}
-use Rattle.table.proofs.Parts.{length-session, session-onSession, site-onSession, length-onSite, session-onSite, length-nodeOf, length-channelOf, bytes-channelOf}
+use Rattle.table.proofs.Parts.{length-session, session-onSession, site-onSession, length-onSite, session-onSite, load-onSite, length-nodeOf, length-channelOf, bytes-channelOf}
 use Rattle.table.proofs.Changes.{at-yes, place-lt, onNode-keeps, node-atNode, channel-atNode, onChannel-keeps, node-atChannel, channel-atChannel, publishedOn-keeps, node-atPublish, channel-atPublish}
 use Rattle.table.proofs.Bytes.{bytes-putChange}
 use Rattle.table.proofs.Decode.{length-putChange, setting-put, decode-put}
@@ -55,97 +55,143 @@ formed-again t u same F session node channel = record {
 at-elim : (P : ℕ → ℕ → Type 0) (m p j q : ℕ) → P m p → T (at m p j q) → P j q
 at-elim P m p j q h b = let same = at-yes m p j q b in rw (same .0, same .1) h
 
+-- ---- a change of site m, of one node, of one channel
+
+module _ (t : List ℕ) (l : length t ≡ tableLength) (F : Formed t) where
+  abbrev Nodes : List ℕ → Type 0
+  Nodes u = (j q : ℕ) → j < 4 → q < 4 → NodeFacts (settingIn t) j q (nodeOf (siteOf u j) q)
+
+  abbrev Ways : List ℕ → Type 0
+  Ways u = (j q e : ℕ) → j < 4 → q < 4 → e < 3 → ChannelFacts (settingIn t) j q e (channelOf (siteOf u j) q e)
+
+  module _ (m : ℕ) (f : List ℕ → List ℕ) (h : m < 4) (keeps : Keeps 13056 f) where
+    same-setting : settingIn (onSite m f t) ≡ settingIn t
+    unfolding settingIn
+    same-setting = λ z. record { sites = load-onSite t m f l h keeps 1 0 (omega arith) z; parts = load-onSite t m f l h keeps 1 1 (omega arith) z }
+
+    onSite-formed : Nodes (onSite m f t) → Ways (onSite m f t) → Formed (onSite m f t)
+    onSite-formed node channel = formed-again t (onSite m f t) same-setting F (λ s b. rw (session-onSite t m f l h keeps s) (F .session s b)) node channel
+
+  module _ (m p : ℕ) (f : List ℕ → List ℕ) (h : m < 4) (g : p < 4) (keeps : Keeps 1856 f) where
+    onNode-formed : NodeFacts (settingIn t) m p (f (nodeOf (siteOf t m) p)) → Formed (onSite m (onNode p f) t)
+    onNode-formed facts =
+        onSite-formed m (onNode p f) h (onNode-keeps t m p f l h g keeps)
+        (λ j q a b.
+        rw (node-atNode t m p f l h g keeps j q)
+        (cond-elim (NodeFacts (settingIn t) j q) (at m p j q) (at-elim (λ j q. NodeFacts (settingIn t) j q (f (nodeOf (siteOf t j) q))) m p j q facts) (λ d. F .node j q a b)))
+        (λ j q e a b d. rw (channel-atNode t m p f l h g keeps j q e) (F .channel j q e a b d))
+
+  module _ (i p d : ℕ) (f : List ℕ → List ℕ) (h : i < 4) (g : p < 4) (k : d < 3) (keeps : Keeps 464 f) where
+    onChannel-formed : ((j q e : ℕ) → j < 4 → q < 4 → e < 3 → ChannelFacts (settingIn t) j q e (f (channelOf (siteOf t j) q e))) → Formed (onSite i (onChannel p d f) t)
+    onChannel-formed facts =
+        onSite-formed i (onChannel p d f) h (onChannel-keeps t i p d f l h g k keeps)
+        (λ j q a b. rw (node-atChannel t i p d f l h g k keeps j q) (F .node j q a b))
+        (λ j q e a b n.
+        rw (channel-atChannel t i p d f l h g k keeps j q e)
+        (cond-elim (ChannelFacts (settingIn t) j q e) (at i p j q && eqb e d) (λ v. facts j q e a b n) (λ v. F .channel j q e a b n)))
+
 -- ---- each change
 
 module _ (t : List ℕ) (l : length t ≡ tableLength) (bytes : Bytes t) (F : Formed t) where
   fits : (c : Change) → Lawful c (decode t) → Fits c t
   fits c ok = lawful-fits c t (F .sites) (F .parts) bytes ok
 
-  same : (c : Change) → Lawful c (decode t) → settingIn (putChange c t) ≡ settingIn t
-  same c ok = setting-put c t l (fits c ok)
+  module _ (s : ℕ) (x : Session) (ok : Lawful (SetSession s x) (decode t)) where
+    put-keeps : Keeps 128 (putSession x)
+    put-keeps b e = length-putSession x b ∙ e
 
-  session-formed : (s : ℕ) (x : Session) → Lawful (SetSession s x) (decode t) → Formed (putChange (SetSession s x) t)
-  unfolding putChange decode
-  session-formed s x ok =
-      let keeps : Keeps 128 (putSession x) = λ b e. length-putSession x b ∙ e in
-      let sites = site-onSession t s (putSession x) l (ok .0) keeps in
-      formed-again t (onSession s (putSession x) t) (same (SetSession s x) ok) F
-      (λ r h.
-      rw (session-onSession t s (putSession x) l (ok .0) keeps r)
-      (cond-elim (SessionFacts (settingIn t)) (eqb r s) (λ e. session-kept (settingIn t) x (sessionOf t r) (length-session t r l h) (F .sites) (ok .1) (F .session r h)) (λ e. F .session r h)))
-      (λ m p h g. rw (sites m) (F .node m p h g))
-      (λ m p d h g k. rw (sites m) (F .channel m p d h g k))
+    session-changed : (r : ℕ) → r < 16 → SessionFacts (settingIn t) (sessionOf (putChange (SetSession s x) t) r)
+    unfolding putChange decode
+    session-changed r h =
+        rw (session-onSession t s (putSession x) l (ok .0) put-keeps r)
+        (cond-elim (SessionFacts (settingIn t)) (eqb r s)
+        (λ e. session-kept (settingIn t) x (sessionOf t r) (length-session t r l h) (F .sites) (ok .1) (F .session r h)) (λ e. F .session r h))
+
+    session-formed : Formed (putChange (SetSession s x) t)
+    unfolding putChange
+    session-formed =
+        let sites = site-onSession t s (putSession x) l (ok .0) put-keeps in
+        formed-again t (onSession s (putSession x) t) (setting-put (SetSession s x) t l (fits (SetSession s x) ok)) F session-changed
+        (λ m p h g. rw (sites m) (F .node m p h g)) (λ m p d h g k. rw (sites m) (F .channel m p d h g k))
 
   clock-formed : (m p v : ℕ) → Lawful (SetClock m p v) (decode t) → Formed (putChange (SetClock m p v) t)
   unfolding putChange decode
   clock-formed m p v ok =
-      let c = settingIn t in
-      let keeps : Keeps 1856 (clockSet v) = λ n e. length-clockSet v n ∙ e in
-      let there : m < 4 = omega (arith, ok .0, F .sites) in
-      let part : p < 4 = omega (arith, ok .1, F .parts) in
-      formed-again t (onSite m (onNode p (clockSet v)) t) (same (SetClock m p v) ok) F
-      (λ s h. rw (session-onSite t m (onNode p (clockSet v)) l there (onNode-keeps t m p (clockSet v) l there part keeps) s) (F .session s h))
-      (λ j q h g.
-      rw (node-atNode t m p (clockSet v) l there part keeps j q)
-      (cond-elim (NodeFacts c j q) (at m p j q) (λ e. clock-kept c j q v (nodeOf (siteOf t j) q) (length-nodeOf t j q l h g) (ok .2) (F .node j q h g)) (λ e. F .node j q h g)))
-      (λ j q d h g k. rw (channel-atNode t m p (clockSet v) l there part keeps j q d) (F .channel j q d h g k))
+      let fit = fits (SetClock m p v) ok in
+      onNode-formed t l F m p (clockSet v) (fit .0) (fit .1) (λ n e. length-clockSet v n ∙ e)
+      (clock-kept (settingIn t) m p v (nodeOf (siteOf t m) p) (length-nodeOf t m p l (fit .0) (fit .1)) (ok .2) (F .node m p (fit .0) (fit .1)))
 
   module _ (m p : ℕ) (x : Msg) (ok : Lawful (Publish m p x) (decode t)) where
+    abbrev n : ℕ
+    n = settingIn t .sites - 1
+
+    fit-publish : FitsPublish m p x t
+    fit-publish = fits (Publish m p x) ok
+
+    there : m < 4
+    unfolding decode
+    there = omega (arith, ok .site, F .sites)
+
+    node-published : NodeFacts (settingIn t) m p (published m x (nodeOf (siteOf t m) p))
+    unfolding decode
+    node-published =
+        let part = fit-publish .part in
+        published-kept (settingIn t) m p (F .sites) (ok .site) (ok .part) x (nodeOf (siteOf t m) p) (length-nodeOf t m p l there part) (ok .msg) (fit-publish .room) (F .node m p there part)
+
+    channel-published : (d : ℕ) → d < 3 → d < n → ChannelFacts (settingIn t) m p d (pushed m x (channelOf (siteOf t m) p d))
+    unfolding decode settingIn
+    channel-published d h g =
+        let part = fit-publish .part in
+        pushed-kept (settingIn t) m p d (channelOf (siteOf t m) p d) (length-channelOf t m p l there part d h) x (fit-publish .ways d g) (F .sites) (ok .site) (ok .part) g (ok .msg) (F .channel m p d there part h)
+
     publish-formed : Formed (putChange (Publish m p x) t)
-    unfolding putChange decode settingIn
+    unfolding putChange settingIn
     publish-formed =
         let c = settingIn t in
-        let n = load 1 t 0 - 1 in
-        let fit = fits (Publish m p x) ok in
-        let there : m < 4 = omega (arith, ok .site, F .sites) in
+        let part = fit-publish .part in
         let few : n ≤ 3 = omega (arith, F .sites) in
-        formed-again t (onSite m (publishedOn n m p x) t) (same (Publish m p x) ok) F
-        (λ s h. rw (session-onSite t m (publishedOn n m p x) l there (publishedOn-keeps t n m p x l there (fit .part) few) s) (F .session s h))
+        onSite-formed t l F m (publishedOn n m p x) there (publishedOn-keeps t n m p x l there part few)
         (λ j q h g.
-        rw (node-atPublish t n m p x l there (fit .part) few j q)
-        (cond-elim (NodeFacts c j q) (at m p j q)
-        (at-elim (λ j q. NodeFacts c j q (published m x (nodeOf (siteOf t j) q))) m p j q
-        (published-kept c m p (F .sites) (ok .site) (ok .part) x (nodeOf (siteOf t m) p) (length-nodeOf t m p l there (fit .part)) (ok .msg) (fit .room) (F .node m p there (fit .part))))
-        (λ e. F .node j q h g)))
+        rw (node-atPublish t n m p x l there part few j q)
+        (cond-elim (NodeFacts c j q) (at m p j q) (at-elim (λ j q. NodeFacts c j q (published m x (nodeOf (siteOf t j) q))) m p j q node-published) (λ e. F .node j q h g)))
         (λ j q d h g k.
-        rw (channel-atPublish t n m p x l there (fit .part) few j q d)
+        rw (channel-atPublish t n m p x l there part few j q d)
         (cond-elim (ChannelFacts c j q d) (at m p j q && ltb d n)
         (λ b.
         let both = and-yes (at m p j q) (ltb d n) b in
-        let way : d < n = ltb-yes (both .1) in
-        at-elim (λ j q. ChannelFacts c j q d (pushed m x (channelOf (siteOf t j) q d))) m p j q
-        (pushed-kept c m p d (channelOf (siteOf t m) p d) (length-channelOf t m p l there (fit .part) d k) x (fit .ways d way) (F .sites) (ok .site) (ok .part) way (ok .msg) (F .channel m p d there (fit .part) k))
-        (both .0))
+        at-elim (λ j q. ChannelFacts c j q d (pushed m x (channelOf (siteOf t j) q d))) m p j q (channel-published d k (ltb-yes (both .1))) (both .0))
         (λ e. F .channel j q d h g k)))
 
   module _ (i m p : ℕ) (x : Msg) (ok : Lawful (Receive i m p x) (decode t)) where
+    fit-receive : FitsReceive i m p x t
+    fit-receive = fits (Receive i m p x) ok
+
+    received-keeps : Keeps 1856 (received i x)
+    received-keeps n e = length-received i x n ∙ e
+
+    -- the table when the node has the message and the channel has it still
+    abbrev u : List ℕ
+    u = onSite m (onNode p (received i x)) t
+
+    node-received : Formed u
+    unfolding decode
+    node-received =
+        let site = fit-receive .site in
+        let part = fit-receive .part in
+        onNode-formed t l F m p (received i x) site part received-keeps
+        (received-kept (settingIn t) m p (F .sites) (ok .site) (ok .part) i x (nodeOf (siteOf t m) p) (length-nodeOf t m p l site part) (ok .source) (ok .msg) (fit-receive .room) (F .node m p site part))
+
     receive-formed : Formed (putChange (Receive i m p x) t)
-    unfolding putChange decode
+    unfolding putChange
     receive-formed =
-        let c = settingIn t in
-        let f = received i x in
-        let fit = fits (Receive i m p x) ok in
-        let keeps : Keeps 1856 f = λ n e. length-received i x n ∙ e in
-        let keeps′ : Keeps 464 popped = λ b e. length-popped b ∙ e in
-        let u = onSite m (onNode p f) t in
-        let d = placeOf i m in
-        let near = place-lt 4 i m (fit .source) (fit .site) (fit .other) in
-        let kept = onNode-keeps t m p f l (fit .site) (fit .part) keeps in
-        let long = length-onSite t m (onNode p f) l (fit .site) kept ∙ l in
-        let kept′ = onChannel-keeps u i p d popped long (fit .source) (fit .part) near keeps′ in
-        formed-again t (onSite i (onChannel p d popped) u) (same (Receive i m p x) ok) F
-        (λ s h. rw (session-onSite u i (onChannel p d popped) long (fit .source) kept′ s, session-onSite t m (onNode p f) l (fit .site) kept s) (F .session s h))
-        (λ j q h g.
-        rw (node-atChannel u i p d popped long (fit .source) (fit .part) near keeps′ j q, node-atNode t m p f l (fit .site) (fit .part) keeps j q)
-        (cond-elim (NodeFacts c j q) (at m p j q)
-        (at-elim (λ j q. NodeFacts c j q (f (nodeOf (siteOf t j) q))) m p j q
-        (received-kept c m p (F .sites) (ok .site) (ok .part) i x (nodeOf (siteOf t m) p) (length-nodeOf t m p l (fit .site) (fit .part)) (ok .source) (ok .msg) (fit .room) (F .node m p (fit .site) (fit .part))))
-        (λ e. F .node j q h g)))
+        let site = fit-receive .site in
+        let part = fit-receive .part in
+        let near = place-lt 4 i m (fit-receive .source) site (fit-receive .other) in
+        let long = length-onSite t m (onNode p (received i x)) l site (onNode-keeps t m p (received i x) l site part received-keeps) ∙ l in
+        onChannel-formed u long node-received i p (placeOf i m) popped (fit-receive .source) part near (λ b e. length-popped b ∙ e)
         (λ j q e h g k.
-        rw (channel-atChannel u i p d popped long (fit .source) (fit .part) near keeps′ j q e, channel-atNode t m p f l (fit .site) (fit .part) keeps j q e)
-        (cond-elim (ChannelFacts c j q e) (at i p j q && eqb e d)
-        (λ b. popped-kept c j q e (channelOf (siteOf t j) q e) (length-channelOf t j q l h g e k) (bytes-channelOf t bytes j q e) (F .channel j q e h g k))
-        (λ b. F .channel j q e h g k)))
+        let bytes′ = subst Bytes (sym (channel-atNode t m p (received i x) l site part received-keeps j q e)) (bytes-channelOf t bytes j q e) in
+        popped-kept (settingIn u) j q e (channelOf (siteOf u j) q e) (length-channelOf u j q long h g e k) bytes′ (node-received .channel j q e h g k))
 
   pub change-formed : (c : Change) → Lawful c (decode t) → Formed (putChange c t)
   change-formed (SetSession s x) = session-formed s x
