@@ -1,15 +1,21 @@
--- The tests of page keys with one key more behind: all in range, k among them, all different. In order: of any list, and of a function's first n
--- values, as a loop extends them. Assumes nothing.
+-- The tests of page keys with one key more behind: all in range, k among them, all different. In order: of any list; of a function's first n
+-- values, as a loop extends them; and a session's page by its bytes. Assumes nothing.
 use mathlib.Core.Path.{_≡_, refl, sym, ap, _∙_}
 use mathlib.Core.Bool.{Bool, true, false, not, _&&_, _||_, and-true, and-assoc, or-false, or-assoc}
 use mathlib.Core.List.{List, [], _∷_, _++_}
-use Prim.Native.Nat.{ℕ, _+_}
+use Prim.Native.Nat.{ℕ, zero, suc, _+_}
 use native.Mathlib.Decide.{ℕ-discrete}
 use borrow.Author.Tests.{eq-eqb, ne-eqb}
-use lib.Dec.{ltb, eqb}
+use lib.Dec.{leb, ltb, eqb}
+use Rattle.codec.specs.Le.{load}
+use Rattle.vector.specs.Entries.{loadVec}
+use Rattle.protocol.specs.Record.{Setting}
+use Rattle.protocol.specs.State.{Mark}
 use Rattle.protocol.specs.Needs.{keysLawful, holdsKey, distinct}
 use Rattle.table.specs.Tabulate.{tabulate}
-use Rattle.table.proofs.Tabulate.{tab-more, tab-none}
+use Rattle.table.specs.Session.{markAt, sessionIn}
+use Rattle.table.proofs.Tabulate.{tab-length, tab-more, tab-none}
+use Rattle.lawful.specs.Values.{vecLawful, keysOf, pageLawful}
 
 -- ---- a list
 
@@ -69,3 +75,19 @@ module _ (f : ℕ → ℕ) where
 
   pub distinct-step : (n : ℕ) → distinct (tabulate (n + 1) f) ≡ (distinct (tabulate n f) && not (holdsKey (f n) (tabulate n f)))
   distinct-step n = ap distinct (tabulate-more n) ∙ distinct-snoc (tabulate n f) (f n)
+
+-- ---- a session's page
+
+keysOf-tabulate : (n : ℕ) (f : ℕ → Mark) → keysOf (tabulate n f) ≡ tabulate n (λ i. f i .key)
+unfolding keysOf tabulate
+keysOf-tabulate zero f = refl
+keysOf-tabulate (suc n) f = ap (λ (l : List ℕ). f 0 .key ∷ l) (keysOf-tabulate n (λ i. f (suc i)))
+
+-- the keys of the session's page
+abbrev pub pageKeys : List ℕ → List ℕ
+pageKeys b = tabulate (load 1 b 3) (λ i. load 1 b (8 + i))
+
+pub pageLawful-in : (c : Setting) (b : List ℕ) → pageLawful c (sessionIn b .page)
+    ≡ (leb (load 1 b 3) 8 && ((not (eqb (load 1 b 2) 1) || (ltb 0 (load 1 b 3) && (keysLawful (pageKeys b) && distinct (pageKeys b)))) && (vecLawful c (loadVec b 64) && vecLawful c (loadVec b 96))))
+unfolding pageLawful sessionIn markAt
+pageLawful-in c b = rw (keysOf-tabulate (load 1 b 3) (markAt b), tab-length (load 1 b 3) (markAt b))

@@ -13,7 +13,7 @@ use crate::vectors;
 
 // "nodes and channels of absent sites or partitions hold no record or message"
 pub fn most(exists: bool, n: u8) -> u8
-    ensures { λ r. ⌜ r ≡ cond exists n 0 ⌝ }
+    ensures { λ r. ⌜ (r ≡ cond exists n 0) × (r ≤ n) ⌝ }
 {
     if exists { n } else { 0 }
 }
