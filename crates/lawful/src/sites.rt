@@ -1,7 +1,6 @@
 // A site's part of the table, 13,056 bytes: 4 nodes, and for each partition 3 outgoing channels. Each function lends the node or the channel that it
-// is about. In order: a node, the channels of a partition, a partition, the site. Assumes nothing.
+// is about. In order: a node, a channel, the channels of a partition, the site. Assumes nothing.
 ghost use mathlib.Core.Path.{_≡_};
-ghost use mathlib.Core.Bool.{_&&_};
 ghost use Prim.Native.Nat.{_≤_, _<_};
 ghost use lib.ListN.{length};
 ghost use Rattle.vector.specs.Vec.{allBelow};
@@ -44,14 +43,6 @@ pub fn channels_formed(site: &[u8], sites: u8, parts: u8, m: u8, p: u8) -> bool
     all
 }
 
-// Node and channels of partition p.
-pub fn partition_formed(site: &[u8], sites: u8, parts: u8, m: u8, p: u8) -> bool
-    requires { ⌜ (length (now site) ≡ 13056) × (0 < parts) × (p < 4) ⌝ }
-    ensures { λ r. ⌜ r ≡ (nodeFormed (record { sites = sites; parts = parts }) m p (nodeOf (now (site .entry)) p) && allBelow 3 (λ d. channelFormed (record { sites = sites; parts = parts }) m p d (channelOf (now (site .entry)) p d))) ⌝ }
-{
-    node_at(site, sites, parts, m, p) & channels_formed(site, sites, parts, m, p)
-}
-
 // Site m.
 pub fn site_formed(site: &[u8], sites: u8, parts: u8, m: u8) -> bool
     requires { ⌜ (length (now site) ≡ 13056) × (0 < parts) ⌝ }
@@ -60,7 +51,7 @@ pub fn site_formed(site: &[u8], sites: u8, parts: u8, m: u8) -> bool
     let mut all = true;
     let mut p = 0;
     while p < 4 {
-        all = all & partition_formed(site, sites, parts, m, p);
+        all = all & (node_at(site, sites, parts, m, p) & channels_formed(site, sites, parts, m, p));
         p += 1;
     }
     all

@@ -28,8 +28,8 @@ session-formed-requires c κs = search needs
 returns : tie.Need-returns
 returns c =
     λ parts.
-        let s = c .before .before .before in
-        rw (session-lent (s .args .t .now) (s .args .s) (s .pre .1)) (c .session-formed .ensures parts)
+    let s = c .before .before .before in
+    rw (session-lent (s .args .t .now) (s .args .s) (s .pre .1)) (c .session-formed .ensures parts)
 
 pub session-at-spec : {M : Type 1} → statement M
 session-at-spec =

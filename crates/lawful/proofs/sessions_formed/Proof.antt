@@ -36,9 +36,9 @@ loop-again c =
 returns : tie.Need-returns Inv-loop μ-loop
 returns c =
     λ parts.
-        let l = c .before in
-        let e : l .loop .s ≡ 16 = omega arith in
-        rw e at (l .loop .inv .1 parts)
+    let l = c .before in
+    let e : l .loop .s ≡ 16 = omega arith in
+    rw e at (l .loop .inv .1 parts)
 
 pub sessions-formed-spec : {M : Type 1} → statement M
 sessions-formed-spec =

@@ -23,10 +23,10 @@ vector-formed-requires-2 c κs = search needs
 returns-2 : tie.Need-returns-2
 returns-2 c =
     λ parts.
-        let at = c .before .before .before in
-        let count = at .before .load-u8 .ensures in
-        let few = rw count at (at .if1 .left) in
-        rw (pageLawful-in, le-leb _ 8 few, c .before .before .page-keys .ensures, count, c .before .vector-formed .ensures parts, c .vector-formed2 .ensures parts)
+    let at = c .before .before .before in
+    let count = at .before .load-u8 .ensures in
+    let few = rw count at (at .if1 .left) in
+    rw (pageLawful-in, le-leb _ 8 few, c .before .before .page-keys .ensures, count, c .before .vector-formed .ensures parts, c .vector-formed2 .ensures parts)
 
 pub page-lawful-spec : {M : Type 1} → statement M
 page-lawful-spec =

@@ -28,8 +28,8 @@ returns : tie.Need-returns
 unfolding sessionFormed sessionLawful sessionIn
 returns c =
     λ parts.
-        let loads = c .before .before .before in
-        rw (c .page-lawful .ensures parts, c .before .vector-formed .ensures parts, c .before .before .flags-formed .ensures, loads .load-u83 .ensures, loads .before .load-u82 .ensures, loads .before .before .load-u8 .ensures)
+    let loads = c .before .before .before in
+    rw (c .page-lawful .ensures parts, c .before .vector-formed .ensures parts, c .before .before .flags-formed .ensures, loads .load-u83 .ensures, loads .before .load-u82 .ensures, loads .before .before .load-u8 .ensures)
 
 pub session-formed-spec : {M : Type 1} → statement M
 session-formed-spec =
