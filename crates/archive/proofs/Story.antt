@@ -1,5 +1,5 @@
--- The theorems carried to the bytes. In order: what a table that setup and steps have led to is (`Reached`), one call of `step` on it, any list of event
--- byte strings as a list of the protocol's events, and the promises. Assumes nothing.
+-- The theorems carried to the bytes. In order: one call of `step` on a sound table (of the right length and well formed), any list of event byte strings
+-- as a list of the protocol's events, from setup, and the promises. Assumes nothing.
 use Prim.Native.Nat.{ℕ, _+_, _≤_}
 use native.Mathlib.Nat.{zero-add}
 use native.Mathlib.Omega.{arith}
@@ -87,8 +87,8 @@ step-other t e R i =
     (λ w. absurd (T-not (wellFormed t) (R .formed) w)))
     (λ a. turned-by t 23 (omega arith))
 
-step-sound : (t e : List ℕ) → Sound t → Sound (stepCall t e .table)
-step-sound t e R = go (isEvent e) (λ i. i) (λ i. i)
+call-sound : (t e : List ℕ) → Sound t → Sound (stepCall t e .table)
+call-sound t e R = go (isEvent e) (λ i. i) (λ i. i)
   where
     go : (b : Bool) → (T b → T (isEvent e)) → (T (not b) → T (not (isEvent e))) → Sound (stepCall t e .table)
     go true f g = rw (step-event t e R (f tt)) (step-sound t R (eventOf e))
@@ -103,7 +103,7 @@ eventsOf (e ∷ es) = cond (isEvent e) (eventOf e ∷ eventsOf es) (eventsOf es)
 after-sound : (t : List ℕ) (es : List (List ℕ)) → Sound t → Sound (tableAfter t es)
 unfolding tableAfter
 after-sound t [] R = R
-after-sound t (e ∷ es) R = after-sound (stepCall t e .table) es (step-sound t e R)
+after-sound t (e ∷ es) R = after-sound (stepCall t e .table) es (call-sound t e R)
 
 decode-step : (t e : List ℕ) → Sound t → T (isEvent e) → decode (stepCall t e .table) ≡ next (decode t) (eventOf e)
 unfolding next
@@ -159,7 +159,7 @@ told-other t e es R i I = record {
 told : (t : List ℕ) (es : List (List ℕ)) → Sound t → Told t es (decode t)
 unfolding tableAfter linesOf countOf after log count eventsOf
 told t [] R = record { state = refl; lines = refl; counts = λ kind. refl }
-told t (e ∷ es) R = go (isEvent e) (λ i. i) (λ i. i) (told (stepCall t e .table) es (step-sound t e R))
+told t (e ∷ es) R = go (isEvent e) (λ i. i) (λ i. i) (told (stepCall t e .table) es (call-sound t e R))
   where
     go : (b : Bool) → (T b → T (isEvent e)) → (T (not b) → T (not (isEvent e))) → Told (stepCall t e .table) es (decode (stepCall t e .table)) → Told t (e ∷ es) (decode t)
     go true f g I = told-event t e es R (f tt) I
@@ -172,17 +172,17 @@ module _ (c : Setting) (l : T (settingLawful c)) (t : List ℕ) (long : length t
   unfolding setupCall
   set-up = ap (λ r. r .table) (cond-yes (eqb (length t) tableLength) _ (refused 23 t) (yes-eqb (length t) tableLength long) ∙ cond-yes (settingLawful c) _ (refused 11 t) l)
 
-  fresh-sound : Sound (setUp c t)
-  fresh-sound = rw set-up (fresh-sound c l)
+  setUp-sound : Sound (setUp c t)
+  setUp-sound = rw set-up (fresh-sound c l)
 
   decode-setUp : decode (setUp c t) ≡ setup c
   decode-setUp = ap decode set-up ∙ fresh-says c l
 
   run-told : (es : List (List ℕ)) → Told (setUp c t) es (setup c)
-  run-told es = subst (Told (setUp c t) es) decode-setUp (told (setUp c t) es fresh-sound)
+  run-told es = subst (Told (setUp c t) es) decode-setUp (told (setUp c t) es setUp-sound)
 
   run-sound : (es : List (List ℕ)) → Sound (tableAfter (setUp c t) es)
-  run-sound es = after-sound (setUp c t) es fresh-sound
+  run-sound es = after-sound (setUp c t) es setUp-sound
 
   few : c .sites ≤ width
   unfolding width
