@@ -1,2 +1,3 @@
 -- The theorems carried to the bytes.
 pub mod Story
+pub mod StandIns
