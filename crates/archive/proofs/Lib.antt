@@ -1,2 +1,3 @@
--- The theorems carried to the bytes.
+-- The theorems carried to the bytes; the same writes to two tables.
 pub mod Story
+pub mod Writes
