@@ -1,3 +1,5 @@
--- The theorems carried to the bytes; the same writes to two tables.
+-- The theorems carried to the bytes; the same writes to two tables, by numbers and parts, and by each change; what may influence a step.
 pub mod Story
 pub mod Writes
+pub mod Changes
+pub mod Influence
