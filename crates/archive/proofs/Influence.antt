@@ -28,7 +28,8 @@ use Rattle.lawful.specs.WellFormed.{wellFormed}
 use Rattle.lawful.proofs.Fits.{step-fits}
 use Rattle.event.specs.Event.{codeLawful, eventOf}
 use Rattle.event.specs.Fields.{unusedZero}
-use Rattle.archive.specs.Call.{Called, gives, need, stepOn, stepCall}
+use Rattle.steps.specs.Step.{Called, gives, need, stepOn}
+use Rattle.archive.specs.Call.{stepCall}
 use Rattle.archive.specs.Influence.{PlacesAlike, SameWrites, SameStep, Influenced}
 use Rattle.archive.proofs.Writes.{Twin}
 use Rattle.archive.proofs.Changes.{Seen, SeenAll, twin-changes}

@@ -1,5 +1,8 @@
--- The theorems carried to the bytes; the stand-ins that do not meet the promise; the same writes to two tables, and what may influence a step.
+-- The theorems carried to the bytes; the stand-ins that do not meet the promise; the same writes to two tables, by
+-- numbers and parts and by each change; what may influence a step.
+pub mod Calls
 pub mod Story
 pub mod StandIns
 pub mod Writes
+pub mod Changes
 pub mod Influence
