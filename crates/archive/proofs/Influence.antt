@@ -2,7 +2,6 @@
 -- call. Assumes nothing.
 use Prim.Native.Nat.{ℕ}
 use mathlib.Core.Path.{_≡_, refl, sym, ap, subst, _∙_}
-use mathlib.Core.Logic.{inl}
 use mathlib.Core.Bool.{Bool, true, false, _&&_}
 use mathlib.Core.List.{List, [], _∷_, _++_}
 use lib.Dec.{T, eqb}
@@ -16,7 +15,7 @@ use Rattle.protocol.specs.Needs.{beatSends, ranges, needs}
 use Rattle.protocol.specs.Change.{Receive}
 use Rattle.protocol.specs.Serve.{taken, serve}
 use Rattle.protocol.specs.Step.{decide, step}
-use Rattle.protocol.specs.Promises.{SiteAlike, Alike}
+use Rattle.protocol.specs.Promises.{Alike}
 use Rattle.protocol.proofs.Judge.{judge-elim}
 use Rattle.protocol.proofs.Influence as Protocol
 use Rattle.table.specs.Parts.{tableLength}
@@ -30,7 +29,7 @@ use Rattle.event.specs.Event.{codeLawful, eventOf}
 use Rattle.event.specs.Fields.{unusedZero}
 use Rattle.archive.specs.Call.{Called, gives, need, stepOn, stepCall}
 use Rattle.archive.specs.Influence.{PlacesAlike, SameWrites, SameStep, Influenced}
-use Rattle.archive.proofs.Writes.{Twin}
+use Rattle.archive.proofs.Writes.{writes-none}
 use Rattle.archive.proofs.Changes.{Seen, SeenAll, twin-changes}
 
 -- ---- what the changes of a step look at
@@ -63,12 +62,11 @@ module _ (t u : List ℕ) where
   -- ---- a refusal is the same, and changes no byte
 
   same-need : (b b′ : Bool) (n : ℕ) (c d : Called) → b ≡ b′ → SameStep t u c d → SameStep t u (need b n t c) (need b′ n u d)
-  unfolding SameWrites
   same-need b b′ n c d e s = subst (λ k. SameStep t u (need b n t c) (need k n u d)) e (go b)
     where
       go : (k : Bool) → SameStep t u (need k n t c) (need k n u d)
       go true = s
-      go false = record { answer = refl; bytes = λ j. inl (refl, refl) }
+      go false = record { answer = refl; bytes = writes-none t u }
 
 -- ---- the call
 
