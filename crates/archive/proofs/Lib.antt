@@ -1,5 +1,7 @@
--- The theorems carried to the bytes; the same writes to two tables, by numbers and parts, and by each change; what may influence a step.
+-- The theorems carried to the bytes; the same writes to two tables, by numbers and parts, and by each change; a session that is not open; what may
+-- influence a step.
 pub mod Story
 pub mod Writes
 pub mod Changes
+pub mod Closed
 pub mod Influence
