@@ -1,10 +1,9 @@
--- The same bytes at the same places, of two lists of equal length. In order: the law of two writes one after the other (`Twin`), a number, what is
--- made of numbers (vectors, records, messages, marks, sessions), and something done to a part, up to sessions, sites, nodes and channels.
--- Assumes nothing.
+-- The same bytes written at the same places of two lists. In order: one byte; no write, and two writes one after the other (`Twin`); a number; what is
+-- made of numbers, up to a session; and something done to a part, up to sessions, sites, nodes and channels. Assumes nothing.
 use Prim.Native.Nat.{ℕ, zero, suc, _+_, _*_, _-_, _/_, _%_, _≤_, _<_}
 use native.Mathlib.Decide.{decLt}
 use native.Mathlib.Omega.{arith}
-use mathlib.Core.Path.{_≡_, refl, sym, ap, _∙_}
+use mathlib.Core.Path.{_≡_, refl, sym, ap, subst, _∙_}
 use mathlib.Core.Logic.{_⊎_, inl, inr}
 use mathlib.Core.List.{List, [], _∷_}
 use lib.IntN.{ℤ, pos}
@@ -24,27 +23,40 @@ use Rattle.table.specs.Session.{flag, putMarks, putSession}
 use Rattle.table.proofs.Parts.{session-is, site-is, node-is, channel-is}
 use Rattle.archive.specs.Influence.{SameWrites}
 
+-- ---- one byte: both as they were, or the same
+
+abbrev SameByte : (x x′ y y′ : ℕ) → Type 0
+SameByte x x′ y y′ = ((x′ ≡ x) × (y′ ≡ y)) ⊎ (x′ ≡ y′)
+
+byte-then : {x x′ x″ y y′ y″ : ℕ} → SameByte x x′ y y′ → SameByte x′ x″ y′ y″ → SameByte x x″ y y″
+byte-then (inl a) (inl b) = inl (b .0 ∙ a .0, b .1 ∙ a .1)
+byte-then (inr a) (inl b) = inr (b .0 ∙ a ∙ sym (b .1))
+byte-then a (inr b) = inr b
+
+byte-is : {x x′ y y′ z z′ w w′ : ℕ} → x ≡ z → x′ ≡ z′ → y ≡ w → y′ ≡ w′ → SameByte x x′ y y′ → SameByte z z′ w w′
+byte-is p p′ q q′ (inl a) = inl (sym p′ ∙ a .0 ∙ p, sym q′ ∙ a .1 ∙ q)
+byte-is p p′ q q′ (inr a) = inr (sym p′ ∙ a ∙ q′)
+
 -- ---- s became s′ as r became r′, and both are as long
 
 pub record Twin (s s′ r r′ : List ℕ) : Type 0 where
   pub writes : SameWrites s s′ r r′
   pub long : length s′ ≡ length r′
 
+-- f writes the same to s and to r
+abbrev pub Both : (List ℕ → List ℕ) → (s r : List ℕ) → Type 0
+Both f s r = SameWrites s (f s) r (f r)
+
+pub writes-none : (s r : List ℕ) → SameWrites s s r r
+unfolding SameWrites
+writes-none s r j = inl (refl, refl)
+
 pub twin-none : (s r : List ℕ) → length s ≡ length r → Twin s s r r
-unfolding SameWrites
-twin-none s r l = record { writes = λ j. inl (refl, refl); long = l }
+twin-none s r l = record { writes = writes-none s r; long = l }
 
-pub writes-then : (s s′ s″ r r′ r″ : List ℕ) → SameWrites s s′ r r′ → SameWrites s′ s″ r′ r″ → SameWrites s s″ r r″
+writes-then : (s s′ s″ r r′ r″ : List ℕ) → SameWrites s s′ r r′ → SameWrites s′ s″ r′ r″ → SameWrites s s″ r r″
 unfolding SameWrites
-writes-then s s′ s″ r r′ r″ f g j = go (f j) (g j)
-  where
-    At : List ℕ → ℕ
-    At x = getD x j 0
-
-    go : ((At s′ ≡ At s) × (At r′ ≡ At r)) ⊎ (At s′ ≡ At r′) → ((At s″ ≡ At s′) × (At r″ ≡ At r′)) ⊎ (At s″ ≡ At r″) → ((At s″ ≡ At s) × (At r″ ≡ At r)) ⊎ (At s″ ≡ At r″)
-    go (inl a) (inl b) = inl (b .0 ∙ a .0, b .1 ∙ a .1)
-    go (inr a) (inl b) = inr (b .0 ∙ a ∙ sym (b .1))
-    go a (inr b) = inr b
+writes-then s s′ s″ r r′ r″ f g j = byte-then (f j) (g j)
 
 pub twin-then : {s s′ s″ r r′ r″ : List ℕ} → Twin s s′ r r′ → Twin s′ s″ r′ r″ → Twin s s″ r r″
 twin-then {s} {s′} {s″} {r} {r′} {r″} a b = record { writes = writes-then s s′ s″ r r′ r″ (a .writes) (b .writes); long = b .long }
@@ -125,50 +137,47 @@ module _ (off k : ℕ) (f : List ℕ → List ℕ) (s r : List ℕ) (fit : off +
   fit′ : off + k ≤ length r
   fit′ = omega arith
 
-  writes-onPart : SameWrites (partOf off k s) (f (partOf off k s)) (partOf off k r) (f (partOf off k r)) → SameWrites s (onPart off k f s) r (onPart off k f r)
+  writes-onPart : Both f (partOf off k s) (partOf off k r) → Both (onPart off k f) s r
   unfolding SameWrites
   writes-onPart a j = go (decLt j off) (decLt j (off + k))
     where
-      At : List ℕ → ℕ
-      At x = getD x j 0
+      At : ℕ → Type 0
+      At i = SameByte (getD s i 0) (getD (onPart off k f s) i 0) (getD r i 0) (getD (onPart off k f r) i 0)
 
-      outside : (off ≤ j → j < off + k → ⊥) → ((At (onPart off k f s) ≡ At s) × (At (onPart off k f r) ≡ At r)) ⊎ (At (onPart off k f s) ≡ At (onPart off k f r))
+      outside : (off ≤ j → j < off + k → ⊥) → At j
       outside o = inl (getD-onPart off k f s fit keeps j o, getD-onPart off k f r fit′ keeps j o)
 
-      inside : (i : ℕ) → i < k
-          → ((getD (f (partOf off k s)) i 0 ≡ getD (partOf off k s) i 0) × (getD (f (partOf off k r)) i 0 ≡ getD (partOf off k r) i 0)) ⊎ (getD (f (partOf off k s)) i 0 ≡ getD (f (partOf off k r)) i 0)
-          → ((getD (onPart off k f s) (off + i) 0 ≡ getD s (off + i) 0) × (getD (onPart off k f r) (off + i) 0 ≡ getD r (off + i) 0)) ⊎ (getD (onPart off k f s) (off + i) 0 ≡ getD (onPart off k f r) (off + i) 0)
-      inside i h (inl b) = inl (getD-done off k f s fit keeps i h ∙ b .0 ∙ getD-part off k s i h, getD-done off k f r fit′ keeps i h ∙ b .1 ∙ getD-part off k r i h)
-      inside i h (inr b) = inr (getD-done off k f s fit keeps i h ∙ b ∙ sym (getD-done off k f r fit′ keeps i h))
+      inside : (i : ℕ) → i < k → At (off + i)
+      inside i h =
+          byte-is (getD-part off k s i h) (sym (getD-done off k f s fit keeps i h)) (getD-part off k r i h) (sym (getD-done off k f r fit′ keeps i h)) (a i)
 
-      go : Dec (j < off) → Dec (j < off + k) → ((At (onPart off k f s) ≡ At s) × (At (onPart off k f r) ≡ At r)) ⊎ (At (onPart off k f s) ≡ At (onPart off k f r))
+      go : Dec (j < off) → Dec (j < off + k) → At j
       go (yes b) e = outside (λ u v. omega arith)
       go (no b) (no e) = outside (λ u v. omega arith)
-      go (no b) (yes e) =
-          let q : j ≡ off + (j - off) = omega arith in
-          rw q (inside (j - off) (omega arith) (a (j - off)))
+      go (no b) (yes e) = let q : off + (j - off) ≡ j = omega arith in subst At q (inside (j - off) (omega arith))
 
-  pub twin-onPart : SameWrites (partOf off k s) (f (partOf off k s)) (partOf off k r) (f (partOf off k r)) → Twin s (onPart off k f s) r (onPart off k f r)
+  twin-onPart : Both f (partOf off k s) (partOf off k r) → Twin s (onPart off k f s) r (onPart off k f r)
   twin-onPart a = record { writes = writes-onPart a; long = length-onPart off k f s fit keeps ∙ l ∙ sym (length-onPart off k f r fit′ keeps) }
 
 -- ---- sessions and sites of the table
 
 module _ (f : List ℕ → List ℕ) (t u : List ℕ) (l : length t ≡ tableLength) (l′ : length u ≡ tableLength) where
-  pub twin-onSession : (s : ℕ) → s < 16 → Keeps 128 f → SameWrites (sessionOf t s) (f (sessionOf t s)) (sessionOf u s) (f (sessionOf u s)) → Twin t (onSession s f t) u (onSession s f u)
+  pub twin-onSession : (s : ℕ) → s < 16 → Keeps 128 f → Both f (sessionOf t s) (sessionOf u s) → Twin t (onSession s f t) u (onSession s f u)
   unfolding onSession
   twin-onSession s h keeps = rw (session-is t s h, session-is u s h) (twin-onPart (sessionAt s) 128 f t u (omega arith) (omega arith) keeps)
 
-  pub twin-onSite : (m : ℕ) → m < 4 → Keeps 13056 f → SameWrites (siteOf t m) (f (siteOf t m)) (siteOf u m) (f (siteOf u m)) → Twin t (onSite m f t) u (onSite m f u)
+  pub twin-onSite : (m : ℕ) → m < 4 → Keeps 13056 f → Both f (siteOf t m) (siteOf u m) → Twin t (onSite m f t) u (onSite m f u)
   unfolding onSite
   twin-onSite m h keeps = rw (site-is t m h, site-is u m h) (twin-onPart (siteAt m) 13056 f t u (omega arith) (omega arith) keeps)
 
 -- ---- nodes and channels of a site
 
 module _ (f : List ℕ → List ℕ) (s r : List ℕ) (p : ℕ) (l : length s ≡ 13056) (l′ : length r ≡ 13056) (h : p < 4) where
-  pub twin-onNode : Keeps 1856 f → SameWrites (nodeOf s p) (f (nodeOf s p)) (nodeOf r p) (f (nodeOf r p)) → Twin s (onNode p f s) r (onNode p f r)
+  pub twin-onNode : Keeps 1856 f → Both f (nodeOf s p) (nodeOf r p) → Twin s (onNode p f s) r (onNode p f r)
   unfolding onNode
   twin-onNode keeps = rw (node-is s p h, node-is r p h) (twin-onPart (nodeAt p) 1856 f s r (omega arith) (omega arith) keeps)
 
-  pub twin-onChannel : (d : ℕ) → d < 3 → Keeps 464 f → SameWrites (channelOf s p d) (f (channelOf s p d)) (channelOf r p d) (f (channelOf r p d)) → Twin s (onChannel p d f s) r (onChannel p d f r)
+  pub twin-onChannel : (d : ℕ) → d < 3 → Keeps 464 f → Both f (channelOf s p d) (channelOf r p d) → Twin s (onChannel p d f s) r (onChannel p d f r)
   unfolding onChannel
-  twin-onChannel d g keeps = rw (channel-is s p d h g, channel-is r p d h g) (twin-onPart (channelAt p d) 464 f s r (omega arith) (omega arith) keeps)
+  twin-onChannel d g keeps =
+      rw (channel-is s p d h g, channel-is r p d h g) (twin-onPart (channelAt p d) 464 f s r (omega arith) (omega arith) keeps)
