@@ -7,7 +7,6 @@ ghost use lib.Dec.{ltb, eqb};
 ghost use lib.ListN.{length};
 ghost use Rattle.vector.specs.Vec.{width, allBelow};
 ghost use Rattle.vector.specs.Entries.{entry, loadVec};
-ghost use Rattle.protocol.specs.Record.{Setting};
 ghost use Rattle.lawful.specs.Values.{timeLawful, vecLawful};
 use vector::Vector;
 
