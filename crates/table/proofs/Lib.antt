@@ -10,3 +10,4 @@ pub mod LetterBytes
 pub mod NodeBytes
 pub mod ChannelBytes
 pub mod SessionBytes
+pub mod Marks

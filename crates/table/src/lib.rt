@@ -6,6 +6,7 @@ use vector::Vector;
 pub mod channels;
 pub mod letters;
 pub mod nodes;
+pub mod sessions;
 pub mod sites;
 
 // A stored record.
