@@ -1,0 +1,2 @@
+-- The search by places is the protocol's search.
+pub mod Places
