@@ -3,4 +3,5 @@ pub mod Places
 pub mod Formed
 pub mod Told
 pub mod Whole
+pub mod Backward
 pub mod Raised

@@ -8,6 +8,7 @@ use vector::Vector;
 
 pub mod answers;
 pub mod lookup;
+pub mod marks;
 pub mod search;
 
 // What is then carried out. A delivery holds its message, which is numbers; an update's vector and a session stand beside the effect.

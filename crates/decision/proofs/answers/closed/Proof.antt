@@ -5,8 +5,6 @@ use Rattle.table.specs.Values.{asSession}
 use Rattle.table.proofs.Values.{entry-zeros}
 use Rattle.decision.proofs.answers.closed.Statement.{statement}
 use Rattle.decision.proofs.answers.closed.Tie as tie
-use Rattle.decision.proofs.answers.closed.Reads as reads
-use Rattle.decision.proofs.answers.closed.Lts as lts
 
 returns : tie.Need-returns
 unfolding asSession closed noPage tabulate

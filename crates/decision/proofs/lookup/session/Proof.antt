@@ -10,9 +10,6 @@ use Rattle.decision.proofs.Told.{count-told, here-told}
 use borrow.Author.Needs.{needs}
 use Rattle.decision.proofs.lookup.session.Statement.{statement}
 use Rattle.decision.proofs.lookup.session.Tie as tie
-use Rattle.decision.proofs.lookup.session.Reads as reads
-use Rattle.decision.proofs.lookup.session.Lts as lts
-use Rattle.table.proofs.sessions.load.Reads as load-reads
 
 mul-off : tie.Need-mul-off
 mul-off c = search needs
