@@ -3,16 +3,17 @@
 use Prim.Native.Nat.{ℕ, zero, suc, _+_, _-_, _≤_, _<_}
 use native.Mathlib.Nat.{add-zero}
 use native.Mathlib.Omega.{arith}
-use mathlib.Core.Path.{_≡_, refl, ap, ap₂, _∙_}
+use mathlib.Core.Path.{_≡_, refl, sym, ap, _∙_}
 use mathlib.Core.Bool.{Bool, false, _||_}
 use mathlib.Core.List.{List, [], _∷_}
 use lib.Dec.{eqb}
-use lib.ListN.{getD, length}
+use lib.ListN.{getD, replicate, getD-replicate}
 use Rattle.protocol.specs.State.{Mark}
 use Rattle.protocol.specs.Serve.{unread, markRead}
 use Rattle.table.specs.Tabulate.{tabulate}
 use Rattle.table.proofs.Tabulate.{tab-ext}
 use Rattle.table.proofs.Marks.{fromTo}
+use Rattle.decision.specs.Marks.{keysOn, marksOn}
 
 module _ {A : Type 0} (f : ℕ → A) (n : ℕ) where
   pub from-none : fromTo n n f ≡ []
@@ -41,7 +42,13 @@ unfolding markRead tabulate
 marks-read k zero f = refl
 marks-read k (suc n) f = rw (marks-read k n (λ i. f (suc i)))
 
-pub marks-unread : (n : ℕ) (f : ℕ → ℕ) → unread (tabulate n f) ≡ tabulate n (λ i. record { key = f i; read = false })
+marks-unread : (n : ℕ) (f : ℕ → ℕ) → unread (tabulate n f) ≡ tabulate n (λ i. record { key = f i; read = false })
 unfolding unread tabulate
 marks-unread zero f = refl
 marks-unread (suc n) f = rw (marks-unread n (λ i. f (suc i)))
+
+-- a page begins with no key read
+pub marks-begun : (keys : List ℕ) (n : ℕ) → n ≤ 8 → marksOn keys (replicate 8 false) n ≡ unread (keysOn keys n)
+marks-begun keys n h =
+    tab-ext n (λ i. record { key = getD keys i 0; read = getD (replicate 8 false) i false }) (λ i. record { key = getD keys i 0; read = false }) (λ i b. rw (getD-replicate 8 i false false (omega arith)))
+    ∙ sym (marks-unread n (λ i. getD keys i 0))

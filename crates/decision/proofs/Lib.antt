@@ -5,3 +5,4 @@ pub mod Told
 pub mod Whole
 pub mod Backward
 pub mod Raised
+pub mod Ladders

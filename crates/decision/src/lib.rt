@@ -7,6 +7,7 @@ use table::Session;
 use vector::Vector;
 
 pub mod answers;
+pub mod keeping;
 pub mod lookup;
 pub mod marks;
 pub mod search;
