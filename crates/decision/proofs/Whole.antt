@@ -21,8 +21,8 @@ part-part off k big size t h g =
     let outer = length-part (big + off) k t (omega arith) in
     ext-getD 0 (partOf off k (partOf big size t)) (partOf (big + off) k t) (omega arith)
     (λ i b.
-      getD-part off k (partOf big size t) i (omega arith) ∙ getD-part big size t (off + i) (omega arith) ∙ ap (λ (j : ℕ). getD t j 0) (sym (add-assoc big off i))
-      ∙ sym (getD-part (big + off) k t i (omega arith)))
+    getD-part off k (partOf big size t) i (omega arith) ∙ getD-part big size t (off + i) (omega arith) ∙ ap (λ (j : ℕ). getD t j 0) (sym (add-assoc big off i))
+    ∙ sym (getD-part (big + off) k t i (omega arith)))
 
 pub node-in-table : (t : List ℕ) (m p : ℕ) → length t ≡ tableLength → m < 4 → p < 4 →
     nodeOf (siteOf t m) p ≡ partOf (siteAt m + nodeAt p) (siteAt m + nodeAt p + 1856 - (siteAt m + nodeAt p)) t

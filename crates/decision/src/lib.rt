@@ -10,7 +10,9 @@ pub mod answers;
 pub mod keeping;
 pub mod lookup;
 pub mod marks;
+pub mod pages;
 pub mod search;
+pub mod sessions;
 
 // What is then carried out. A delivery holds its message, which is numbers; an update's vector and a session stand beside the effect.
 pub enum Effect {

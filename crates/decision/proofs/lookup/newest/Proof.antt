@@ -38,9 +38,11 @@ newest-requires c κs =
     let s = c .before .before in
     let a = s .args in
     let t = a .t .now in
-    let here = node-in-table t (a .m) (a .p) (s .pre .0) (s .pre .2) (s .pre .3) in
-    (search needs, subst (λ n. heldIn n ≤ 32) here (node-held t (s .pre .1) (a .m) (a .p) (s .pre .2) (s .pre .3)),
-      subst (λ n. (k : ℕ) → k < heldIn n → recordAt n (slotAt k) .id .source < 4) here (node-source t (s .pre .1) (a .m) (a .p) (s .pre .2) (s .pre .3)))
+    let here = node-in-table t (a .m) (a .p) (s .pre .0) (s .pre .2) (s .pre .3) in (
+      search needs,
+      subst (λ n. heldIn n ≤ 32) here (node-held t (s .pre .1) (a .m) (a .p) (s .pre .2) (s .pre .3)),
+      subst (λ n. (k : ℕ) → k < heldIn n → recordAt n (slotAt k) .id .source < 4) here (node-source t (s .pre .1) (a .m) (a .p) (s .pre .2) (s .pre .3)),
+    )
 
 returns : tie.Need-returns
 returns c =

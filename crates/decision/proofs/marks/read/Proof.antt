@@ -39,9 +39,11 @@ loop-less c = search needs
 loop-again : tie.Need-loop-again Inv-loop μ-loop
 loop-again c =
     let l = c .before in
-    let a = l .before .args in
-    (omega arith, simp length-set (omega arith),
-      filled-more (λ j. getD (a .t2) j false || eqb (getD (a .t1) j 0) (a .k)) (l .loop .read) (l .loop .i) _ false (omega arith) (l .loop .inv .2) refl)
+    let a = l .before .args in (
+      omega arith,
+      simp length-set (omega arith),
+      filled-more (λ j. getD (a .t2) j false || eqb (getD (a .t1) j 0) (a .k)) (l .loop .read) (l .loop .i) _ false (omega arith) (l .loop .inv .2) refl,
+    )
 
 returns : tie.Need-returns Inv-loop μ-loop
 returns c =

@@ -54,9 +54,10 @@ returns-2 c =
     let k = e .before in
     let s = k .before .before .before in
     let n = s .args .n .now in
-    let b = k .newest-place .result in
-    (λ d. ap some (c .load-record .ensures) ∙ sym (newest-some d _ (λ i. recordAt n (slotAt i)) (heldIn n) b (place-of k d) (e .if1 .left)),
-      subst (λ m. m < 4) (sym (ap (λ r. r .id .source) (c .load-record .ensures))) (s .pre .2 (b - 1) (omega arith)))
+    let b = k .newest-place .result in (
+      λ d. ap some (c .load-record .ensures) ∙ sym (newest-some d _ (λ i. recordAt n (slotAt i)) (heldIn n) b (place-of k d) (e .if1 .left)),
+      subst (λ m. m < 4) (sym (ap (λ r. r .id .source) (c .load-record .ensures))) (s .pre .2 (b - 1) (omega arith)),
+    )
 
 pub newest-spec : {M : Type 1} → statement M
 newest-spec =
