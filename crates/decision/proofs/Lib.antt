@@ -1,0 +1,8 @@
+-- The search by places is the protocol's search; what is asked of a well-formed table, and known of a session; a node's bytes in the table; vectors by their entries.
+pub mod Places
+pub mod Formed
+pub mod Told
+pub mod Whole
+pub mod Backward
+pub mod Raised
+pub mod Ladders
