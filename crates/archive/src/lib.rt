@@ -2,8 +2,8 @@
 // and the table's bytes afterwards as one equation. Assumes nothing.
 ghost use mathlib.Core.Path.{_≡_};
 ghost use lib.ListN.{length, replicate};
-ghost use Rattle.steps.specs.Step.{gives};
-ghost use Rattle.archive.specs.Call.{refusedWith, setupCall};
+ghost use Rattle.steps.specs.Step.{gives, refusedWith};
+ghost use Rattle.archive.specs.Call.{setupCall};
 use protocol::Answer;
 use protocol::Refusal;
 

@@ -1,2 +1,3 @@
--- What a step on a well-formed table gives, by the tests of its code.
+-- What a step on a well-formed table gives, by the tests of its code; and that pieces keep a table sound.
 pub mod Stepped
+pub mod Kept

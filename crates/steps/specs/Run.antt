@@ -24,13 +24,17 @@ pub record Ran : Type 0 where
   pub table : List ℕ
   pub answers : List ℕ
 
+abbrev pub ran : (table answers : List ℕ) → Ran
+ran t b = record { table = t; answers = b }
+
+-- piece i by the call, and its answer
+unfoldable pub turned : ((table event : List ℕ) → Called) → ℕ → (table events answers : List ℕ) → Ran
+turned call i t es b = let c = call t (pieceOf es i) in ran (c .table) (putAnswer b (16 * i) (c .answer))
+
 -- the first n pieces, one after the other
 unfoldable pub runBy : ((table event : List ℕ) → Called) → ℕ → (table events answers : List ℕ) → Ran
-runBy call zero t es b = record { table = t; answers = b }
-runBy call (suc n) t es b =
-    let r = runBy call n t es b in
-    let c = call (r .table) (pieceOf es n) in
-    record { table = c .table; answers = putAnswer (r .answers) (16 * n) (c .answer) }
+runBy call zero t es b = ran t b
+runBy call (suc n) t es b = let r = runBy call n t es b in turned call n (r .table) es (r .answers)
 
 -- a piece on a well-formed table
 unfoldable pub pieceCall : (table event : List ℕ) → Called

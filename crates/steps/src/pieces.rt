@@ -2,8 +2,16 @@
 ghost use mathlib.Core.Path.{_≡_};
 ghost use Prim.Native.Nat.{_+_, _≤_};
 ghost use lib.ListN.{length};
+ghost use Rattle.steps.specs.Step.{refusedWith};
 ghost use Rattle.steps.specs.Run.{putAnswer};
 use protocol::Answer;
+use protocol::Refusal;
+
+pub fn refused(number: u8) -> Answer
+    ensures { λ r. ⌜ r ≡ refusedWith number ⌝ }
+{
+    Answer::Refused(Refusal { number, source: 0, stamp: 0 })
+}
 
 // The answer's 16 bytes go to `at`.
 pub fn store_answer(b: &mut [u8], at: usize, a: Answer)

@@ -1,0 +1,61 @@
+-- A piece on a sound table by its length; that it leaves the table sound; and runs, one piece more as the code counts. Assumes nothing.
+use Prim.Native.Nat.{ℕ, _+_, _*_, _-_, min}
+use native.Mathlib.Numerals.{add-one}
+use native.Mathlib.Omega.{arith}
+use mathlib.Core.Path.{_≡_, refl, sym, ap, subst, _∙_}
+use mathlib.Core.Logic.{_≢_}
+use mathlib.Core.List.{List}
+use lib.Dec.{eqb}
+use lib.ListN.{length}
+use borrow.Author.Tests.{eq-eqb, ne-eqb}
+use Rattle.codec.specs.Part.{partOf}
+use Rattle.vector.proofs.Tests.{cond-elim}
+use Rattle.protocol.specs.declared.Answer.{Answer}
+use Rattle.lawful.proofs.Steps.{Sound, step-sound}
+use Rattle.event.specs.Event.{codeLawful, eventOf}
+use Rattle.event.specs.Fields.{unusedZero}
+use Rattle.steps.specs.Step.{Called, gives, refused, stepOn}
+use Rattle.steps.specs.Run.{pieceOf, putAnswer, ran, turned, runBy, pieceCall}
+
+module _ (t e : List ℕ) where
+  pub piece-whole : length e ≡ 32 → pieceCall t e ≡ stepOn t e
+  unfolding pieceCall
+  piece-whole l = rw (eq-eqb (length e) 32 l)
+
+  pub piece-short : length e ≢ 32 → pieceCall t e ≡ refused 23 t
+  unfolding pieceCall
+  piece-short d = rw (ne-eqb (length e) 32 d)
+
+  pub step-keeps : Sound t → Sound (stepOn t e .table)
+  unfolding stepOn
+  step-keeps S =
+      cond-elim (λ (c : Called). Sound (c .table)) (codeLawful e)
+      (λ a. cond-elim (λ (c : Called). Sound (c .table)) (unusedZero e) (λ b. step-sound t S (eventOf e)) (λ b. S)) (λ a. S)
+
+  piece-keeps : Sound t → Sound (pieceCall t e .table)
+  unfolding pieceCall
+  piece-keeps S = cond-elim (λ (c : Called). Sound (c .table)) (eqb (length e) 32) (λ a. step-keeps S) (λ a. S)
+
+-- the piece that the code cuts out, k bytes long
+pub cut-piece : (es : List ℕ) (i k : ℕ) → k ≡ min 32 (length es - 32 * i) → partOf (32 * i) (32 * i + k - 32 * i) es ≡ pieceOf es i
+unfolding pieceOf
+cut-piece es i k q = let z : 32 * i + k - 32 * i ≡ min 32 (length es - 32 * i) = omega arith in ap (λ n. partOf (32 * i) n es) z
+
+pub turned-by : (i : ℕ) (t es b e u w : List ℕ) (a : Answer) → e ≡ pieceOf es i → gives a u ≡ pieceCall t e → w ≡ putAnswer b (16 * i) a → ran u w ≡ turned pieceCall i t es b
+unfolding turned
+turned-by i t es b e u w a q c z =
+    let d : gives a u ≡ pieceCall t (pieceOf es i) = c ∙ ap (pieceCall t) q in
+    ap (ran u) z ∙ ap (λ r. ran (r .table) (putAnswer b (16 * i) (r .answer))) d
+
+module _ (t es b : List ℕ) where
+  pub run-none : ran t b ≡ runBy pieceCall 0 t es b
+  unfolding runBy
+  run-none = refl
+
+  pub run-step : (i : ℕ) (u v u′ v′ : List ℕ) → ran u v ≡ runBy pieceCall i t es b → ran u′ v′ ≡ turned pieceCall i u es v → ran u′ v′ ≡ runBy pieceCall (i + 1) t es b
+  unfolding runBy
+  run-step i u v u′ v′ r s = rw (add-one i) (s ∙ ap (λ x. turned pieceCall i (x .table) es (x .answers)) r)
+
+  pub turned-sound : (i : ℕ) (u w : List ℕ) → ran u w ≡ turned pieceCall i t es b → Sound t → Sound u
+  unfolding turned
+  turned-sound i u w r S = subst Sound (sym (ap (λ x. x .table) r)) (piece-keeps t (pieceOf es i) S)
