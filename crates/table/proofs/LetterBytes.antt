@@ -7,21 +7,21 @@ use mathlib.Core.Path.{_≡_, refl, ap, _∙_, fun-ext}
 use mathlib.Core.Bool.{Bool, true, false, cond}
 use mathlib.Core.List.{List, [], _∷_}
 use lib.Dec.{T, ltb, eqb}
-use lib.IntN.{ℤ, pos}
+use lib.IntN.{pos}
 use lib.ListN.{length}
 use mir.Facts.{ltb-yes}
-use Rattle.codec.specs.Le.{load, put, span, Apart}
+use Rattle.codec.specs.Le.{load, span, Apart}
 use Rattle.codec.specs.Level.{levelFrom, bitsOf, FitsLevel}
-use Rattle.codec.specs.Fields.{Field, field, putAll, Small, Shows}
+use Rattle.codec.specs.Fields.{Field, field, putAll, Shows}
 use Rattle.codec.proofs.Le.{span-pos}
 use Rattle.codec.proofs.Fields.{length-putAll, load-putAll-other, shows}
 use Rattle.codec.proofs.Level.{levelFrom-bitsOf, bitsOf-lt}
-use Rattle.vector.specs.Vec.{Vec, width, zeros}
+use Rattle.vector.specs.Vec.{width, zeros}
 use Rattle.vector.specs.Entries.{loadVec, putVec}
 use Rattle.vector.proofs.Entries.{load-putVec-other, loadVec-putVec}
 use Rattle.protocol.specs.Record.{Rec, Msg, Update, Beat}
 use Rattle.table.specs.Letter.{recordAt, messageAt, putFields, putRecord, putMessage}
-use Rattle.table.specs.Fits.{FitsVec, FitsRec, FitsMsg}
+use Rattle.table.specs.Fits.{FitsRec, FitsMsg}
 
 -- ---- equal bytes say the same
 
@@ -144,6 +144,18 @@ pub load-putMessage-other : (b : List ℕ) (at m : ℕ) (x : Msg) (w j : ℕ) �
 unfolding putMessage
 load-putMessage-other b at m (Update r) = load-putRecord-other b at r
 load-putMessage-other b at m (Beat t) = load-putKind-other b at 2 (beat m t)
+
+-- a record and a message elsewhere
+
+pub record-elsewhere : (b : List ℕ) (at : ℕ) (r : Rec) (j : ℕ) → Apart j 48 at 48 → recordAt (putRecord b at r) j ≡ recordAt b j
+record-elsewhere b at r j o =
+    record-ext (putRecord b at r) b j (λ w i p q. load-putRecord-other b at r w i (λ k u v x y. o k (omega arith) (omega arith) x y))
+
+pub message-elsewhere : (b : List ℕ) (at m : ℕ) (x : Msg) (j : ℕ) → Apart j 48 at 48 → messageAt (putMessage b at m x) j ≡ messageAt b j
+message-elsewhere b at m x j o =
+    message-ext (putMessage b at m x) b j (λ w i p q. load-putMessage-other b at m x w i (λ k u v y z. o k (omega arith) (omega arith) y z))
+
+-- and at their place
 
 pub record-putRecord : (b : List ℕ) (at : ℕ) (r : Rec) → at + 48 ≤ length b → FitsRec r → recordAt (putRecord b at r) at ≡ r
 unfolding putRecord

@@ -1,4 +1,5 @@
--- Every change keeps lengths; the values that the code holds; room for a message; what is lent; a message in a site's channels.
+-- Lengths; the values that the code holds; room for a message; what is lent; slots as lists; the table's parts; what each thing's bytes say after a
+-- change; the parts after a change of the table; and the whole: bytes stay bytes, `decode` follows each change, and a fresh table says a setup.
 pub mod Lengths
 pub mod Values
 pub mod Room
@@ -11,3 +12,7 @@ pub mod NodeBytes
 pub mod ChannelBytes
 pub mod SessionBytes
 pub mod Marks
+pub mod Changes
+pub mod Bytes
+pub mod Decode
+pub mod Fresh

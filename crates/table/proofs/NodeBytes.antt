@@ -15,7 +15,6 @@ use Rattle.vector.specs.Vec.{Vec, width, withEntry, atLeast}
 use Rattle.vector.specs.Entries.{loadVec}
 use Rattle.vector.proofs.Entries.{loadVec-below}
 use Rattle.protocol.specs.Record.{Rec, Msg, Update, Beat, stampIn, recordsIn}
-use Rattle.table.specs.Tabulate.{tabulate}
 use Rattle.table.specs.Letter.{recordAt, putRecord}
 use Rattle.table.specs.Node.{clockIn, heardIn, heldIn, slotAt, storeIn, clockSet, stored, published, received}
 use Rattle.table.specs.Fits.{FitsRec, FitsMsg, RoomFor}

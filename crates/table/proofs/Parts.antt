@@ -1,17 +1,21 @@
--- The laws of the table's parts: where no two things overlap. In order: any part that is there or not; for each kind of thing its length, that a
--- change of one keeps the length of the whole, what each thing of the kind is after it, and that things of another kind are as they were.
--- Assumes nothing.
-use Prim.Native.Nat.{ℕ, _+_, _*_, _≤_, _<_}
+-- The laws of the table's parts: where no two things overlap. In order: any part that is there or not; for each kind of thing its place and length,
+-- that a change of one keeps the length of the whole, what each thing of the kind is after it, and that things of another kind are as they were;
+-- what holds of each byte; and nodes and channels of the whole table. Assumes nothing.
+use Prim.Native.Nat.{ℕ, _+_, _≤_, _<_}
+use native.Mathlib.Decide.{decLt}
 use native.Mathlib.Omega.{arith}
-use mathlib.Core.Path.{_≡_, refl, ap, subst}
+use mathlib.Core.Path.{_≡_, refl, ap, _∙_}
 use mathlib.Core.Logic.{⊎-elim}
 use mathlib.Core.Bool.{Bool, true, false, cond, not, _&&_}
 use mathlib.Core.List.{List, []}
 use lib.Dec.{T, ltb, eqb, lt→ltb}
-use lib.ListN.{length}
-use mir.Facts.{and-yes, yes-and, and-no, ltb-yes, eqb-yes, eqb-no}
+use lib.ListN.{length, getD, drop, length-take, List·getD-eq-default}
+use lib.Seq.{getD-take, getD-drop}
+use mir.Syntax.{w8}
+use mir.Val.{Fits}
+use mir.Facts.{fits-lit, and-yes, yes-and, and-no, ltb-yes, eqb-yes, eqb-no}
 use borrow.Author.Tests.{lt-ltb, le-ltb}
-use Rattle.codec.specs.Le.{load, Apart}
+use Rattle.codec.specs.Le.{load, Bytes, Apart}
 use Rattle.codec.specs.Part.{partOf, onPart, Keeps}
 use Rattle.codec.proofs.Le.{load-ext}
 use Rattle.codec.proofs.Part.{length-part, length-onPart, getD-onPart, part-onPart, part-other}
@@ -47,9 +51,16 @@ numbered at k n t fit apart m f h keeps j =
 
 -- ---- sessions
 
-pub length-session : (t : List ℕ) (s : ℕ) → length t ≡ tableLength → s < 16 → length (sessionOf t s) ≡ 128
+pub session-is : (t : List ℕ) (s : ℕ) → s < 16 → sessionOf t s ≡ partOf (sessionAt s) 128 t
 unfolding sessionOf
-length-session t s l h = rw (lt-ltb s 16 h) (length-part (sessionAt s) 128 t (omega arith))
+session-is t s h = rw (lt-ltb s 16 h)
+
+pub session-none : (t : List ℕ) (s : ℕ) → 16 ≤ s → sessionOf t s ≡ []
+unfolding sessionOf
+session-none t s h = rw (le-ltb s 16 h)
+
+pub length-session : (t : List ℕ) (s : ℕ) → length t ≡ tableLength → s < 16 → length (sessionOf t s) ≡ 128
+length-session t s l h = rw (session-is t s h) (length-part (sessionAt s) 128 t (omega arith))
 
 module _ (t : List ℕ) (s : ℕ) (f : List ℕ → List ℕ) (l : length t ≡ tableLength) (h : s < 16) (keeps : Keeps 128 f) where
   pub length-onSession : length (onSession s f t) ≡ length t
@@ -73,9 +84,16 @@ module _ (t : List ℕ) (s : ℕ) (f : List ℕ → List ℕ) (l : length t ≡ 
 
 -- ---- sites
 
-pub length-site : (t : List ℕ) (m : ℕ) → length t ≡ tableLength → m < 4 → length (siteOf t m) ≡ 13056
+pub site-is : (t : List ℕ) (m : ℕ) → m < 4 → siteOf t m ≡ partOf (siteAt m) 13056 t
 unfolding siteOf
-length-site t m l h = rw (lt-ltb m 4 h) (length-part (siteAt m) 13056 t (omega arith))
+site-is t m h = rw (lt-ltb m 4 h)
+
+pub site-none : (t : List ℕ) (m : ℕ) → 4 ≤ m → siteOf t m ≡ []
+unfolding siteOf
+site-none t m h = rw (le-ltb m 4 h)
+
+pub length-site : (t : List ℕ) (m : ℕ) → length t ≡ tableLength → m < 4 → length (siteOf t m) ≡ 13056
+length-site t m l h = rw (site-is t m h) (length-part (siteAt m) 13056 t (omega arith))
 
 module _ (t : List ℕ) (m : ℕ) (f : List ℕ → List ℕ) (l : length t ≡ tableLength) (h : m < 4) (keeps : Keeps 13056 f) where
   pub length-onSite : length (onSite m f t) ≡ length t
@@ -99,9 +117,16 @@ module _ (t : List ℕ) (m : ℕ) (f : List ℕ → List ℕ) (l : length t ≡ 
 
 -- ---- nodes of a site
 
-pub length-node : (s : List ℕ) (p : ℕ) → length s ≡ 13056 → p < 4 → length (nodeOf s p) ≡ 1856
+pub node-is : (s : List ℕ) (p : ℕ) → p < 4 → nodeOf s p ≡ partOf (nodeAt p) 1856 s
 unfolding nodeOf
-length-node s p l h = rw (lt-ltb p 4 h) (length-part (nodeAt p) 1856 s (omega arith))
+node-is s p h = rw (lt-ltb p 4 h)
+
+pub node-none : (s : List ℕ) (p : ℕ) → 4 ≤ p → nodeOf s p ≡ []
+unfolding nodeOf
+node-none s p h = rw (le-ltb p 4 h)
+
+pub length-node : (s : List ℕ) (p : ℕ) → length s ≡ 13056 → p < 4 → length (nodeOf s p) ≡ 1856
+length-node s p l h = rw (node-is s p h) (length-part (nodeAt p) 1856 s (omega arith))
 
 module _ (s : List ℕ) (p : ℕ) (f : List ℕ → List ℕ) (l : length s ≡ 13056) (h : p < 4) (keeps : Keeps 1856 f) where
   pub length-onNode : length (onNode p f s) ≡ length s
@@ -123,9 +148,12 @@ module _ (s : List ℕ) (p : ℕ) (f : List ℕ → List ℕ) (l : length s ≡ 
 
 -- ---- channels of a site
 
-pub length-channel : (s : List ℕ) (p d : ℕ) → length s ≡ 13056 → p < 4 → d < 3 → length (channelOf s p d) ≡ 464
+pub channel-is : (s : List ℕ) (p d : ℕ) → p < 4 → d < 3 → channelOf s p d ≡ partOf (channelAt p d) 464 s
 unfolding channelOf
-length-channel s p d l h h′ = rw (lt-ltb p 4 h, lt-ltb d 3 h′) (length-part (channelAt p d) 464 s (omega arith))
+channel-is s p d h h′ = rw (lt-ltb p 4 h, lt-ltb d 3 h′)
+
+pub length-channel : (s : List ℕ) (p d : ℕ) → length s ≡ 13056 → p < 4 → d < 3 → length (channelOf s p d) ≡ 464
+length-channel s p d l h h′ = rw (channel-is s p d h h′) (length-part (channelAt p d) 464 s (omega arith))
 
 module _ (s : List ℕ) (p d : ℕ) (f : List ℕ → List ℕ) (l : length s ≡ 13056) (h : p < 4) (h′ : d < 3) (keeps : Keeps 464 f) where
   pub length-onChannel : length (onChannel p d f s) ≡ length s
@@ -158,3 +186,70 @@ module _ (s : List ℕ) (p d : ℕ) (f : List ℕ → List ℕ) (l : length s �
   node-onChannel q =
       part-elsewhere (channelAt p d) 464 f s (omega arith) keeps (ltb q 4) (nodeAt q) 1856
       (λ b. let g : q < 4 = ltb-yes b in (omega arith, λ k u v x y. omega arith))
+
+-- ---- what holds of each byte of the whole, and of 0, holds of each byte of a part
+
+abbrev pub Every : (ℕ → Type 0) → List ℕ → Type 0
+Every P s = (i : ℕ) → P (getD s i 0)
+
+module _ (P : ℕ → Type 0) (none : P 0) where
+  pub part-every : (off k : ℕ) (t : List ℕ) → ((i : ℕ) → P (getD t (off + i) 0)) → Every P (partOf off k t)
+  part-every off k t all i = go (decLt i k)
+    where
+      go : Dec (i < k) → P (getD (partOf off k t) i 0)
+      go (yes b) = rw (getD-take k (drop off t) i 0 b, getD-drop off t i 0) (all i)
+      go (no b) = rw (List·getD-eq-default (partOf off k t) 0 {n = i} (omega (arith, length-take k (drop off t)))) none
+
+  every-if : (b : Bool) (s : List ℕ) → Every P s → Every P (cond b s [])
+  every-if true s all = all
+  every-if false s all = λ i. none
+
+  pub every-session : (t : List ℕ) (s : ℕ) → ((i : ℕ) → 128 ≤ i → P (getD t i 0)) → Every P (sessionOf t s)
+  unfolding sessionOf
+  every-session t s all =
+      every-if (ltb s 16) (partOf (sessionAt s) 128 t) (part-every (sessionAt s) 128 t (λ i. all (sessionAt s + i) (omega arith)))
+
+  pub every-site : (t : List ℕ) (m : ℕ) → ((i : ℕ) → 4096 ≤ i → P (getD t i 0)) → Every P (siteOf t m)
+  unfolding siteOf
+  every-site t m all = every-if (ltb m 4) (partOf (siteAt m) 13056 t) (part-every (siteAt m) 13056 t (λ i. all (siteAt m + i) (omega arith)))
+
+  pub every-node : (s : List ℕ) (p : ℕ) → Every P s → Every P (nodeOf s p)
+  unfolding nodeOf
+  every-node s p all = every-if (ltb p 4) (partOf (nodeAt p) 1856 s) (part-every (nodeAt p) 1856 s (λ i. all (nodeAt p + i)))
+
+  pub every-channel : (s : List ℕ) (p d : ℕ) → Every P s → Every P (channelOf s p d)
+  unfolding channelOf
+  every-channel s p d all =
+      every-if (ltb p 4 && ltb d 3) (partOf (channelAt p d) 464 s) (part-every (channelAt p d) 464 s (λ i. all (channelAt p d + i)))
+
+-- ---- the parts of a table of bytes are bytes
+
+module _ (t : List ℕ) (bytes : Bytes t) where
+  bytes-site : (m : ℕ) → Bytes (siteOf t m)
+  bytes-site m = every-site (Fits w8) (fits-lit tt) t m (λ i b. bytes i)
+
+  pub bytes-nodeOf : (m p : ℕ) → Bytes (nodeOf (siteOf t m) p)
+  bytes-nodeOf m p = every-node (Fits w8) (fits-lit tt) (siteOf t m) p (bytes-site m)
+
+  pub bytes-channelOf : (m p d : ℕ) → Bytes (channelOf (siteOf t m) p d)
+  bytes-channelOf m p d = every-channel (Fits w8) (fits-lit tt) (siteOf t m) p d (bytes-site m)
+
+-- ---- nodes and channels of the whole table
+
+module _ (t : List ℕ) (m p : ℕ) (l : length t ≡ tableLength) (h : m < 4) (h′ : p < 4) where
+  pub length-nodeOf : length (nodeOf (siteOf t m) p) ≡ 1856
+  length-nodeOf = length-node (siteOf t m) p (length-site t m l h) h′
+
+  pub length-channelOf : (d : ℕ) → d < 3 → length (channelOf (siteOf t m) p d) ≡ 464
+  length-channelOf d h″ = length-channel (siteOf t m) p d (length-site t m l h) h′ h″
+
+-- what X reads of a site after g was done to site m
+pub read-onSite {ℓ} : {A : Type ℓ} (X : List ℕ → A) (t : List ℕ) (m : ℕ) (g : List ℕ → List ℕ) → length t ≡ tableLength → m < 4 → Keeps 13056 g → (j : ℕ) (u : A)
+    → (length (siteOf t j) ≡ 13056 → X (g (siteOf t j)) ≡ u) → X (siteOf (onSite m g t) j) ≡ cond (eqb j m) u (X (siteOf t j))
+read-onSite X t m g l h keeps j u e =
+    ap X (site-onSite t m g l h keeps j)
+    ∙ go (eqb j m) (λ q. let r : j ≡ m = eqb-yes q in e (length-site t j l (omega arith)))
+  where
+    go : (b : Bool) → (T b → X (g (siteOf t j)) ≡ u) → X (cond b (g (siteOf t j)) (siteOf t j)) ≡ cond b u (X (siteOf t j))
+    go true f = f tt
+    go false f = refl

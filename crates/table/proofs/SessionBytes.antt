@@ -1,9 +1,9 @@
 -- The laws of a session's bytes: what is put is what stands in them. In order: the marks, the bytes before them, the vectors, all. Assumes nothing.
-use Prim.Native.Nat.{ℕ, zero, suc, _+_, _*_, _≤_, _<_}
+use Prim.Native.Nat.{ℕ, suc, _+_, _*_, _≤_, _<_}
 use native.Mathlib.Nat.{add-zero, zero-add}
 use native.Mathlib.Omega.{arith}
 use mathlib.Core.Path.{_≡_, refl, sym, ap, ap₂, _∙_}
-use mathlib.Core.Bool.{Bool, true, false, cond}
+use mathlib.Core.Bool.{Bool, true, false}
 use mathlib.Core.List.{List, [], _∷_}
 use lib.Dec.{eqb}
 use lib.ListN.{length}
@@ -11,13 +11,12 @@ use Rattle.codec.specs.Le.{load, put, span, Apart}
 use Rattle.codec.specs.Fields.{Field, field, putAll, Shows}
 use Rattle.codec.proofs.Le.{length-put, load-put, load-put-other}
 use Rattle.codec.proofs.Fields.{length-putAll, shows}
-use Rattle.vector.specs.Vec.{Vec}
 use Rattle.vector.specs.Entries.{loadVec, putVec}
 use Rattle.vector.proofs.Entries.{length-putVec, load-putVec-other, loadVec-putVec, loadVec-putVec-other}
 use Rattle.protocol.specs.State.{Mark, Session}
 use Rattle.table.specs.Tabulate.{tabulate}
 use Rattle.table.specs.Session.{markAt, sessionIn, flag, putMarks, putSession}
-use Rattle.table.specs.Fits.{FitsVec, FitsMarks, FitsSession}
+use Rattle.table.specs.Fits.{FitsMarks, FitsSession}
 use Rattle.table.proofs.Tabulate.{tab-ext}
 use Rattle.table.proofs.LetterBytes.{loadVec-ext}
 

@@ -3,7 +3,7 @@
 use Prim.Native.Nat.{ℕ, zero, suc, _+_, _-_, _<_}
 use native.Mathlib.Numerals.{add-one}
 use native.Mathlib.Omega.{arith}
-use mathlib.Core.Path.{_≡_, refl, sym, ap, ap₂, subst, _∙_}
+use mathlib.Core.Path.{_≡_, refl, ap, ap₂, _∙_}
 use mathlib.Core.List.{List, [], _∷_, _++_, tail}
 use lib.ListN.{length}
 use Rattle.table.specs.Tabulate.{tabulate}
@@ -19,7 +19,7 @@ module _ {ℓ} {A : Type ℓ} where
   tab-ext zero f g h = refl
   tab-ext (suc n) f g h = ap₂ _∷_ (h 0 (omega arith)) (tab-ext n (λ i. f (suc i)) (λ i. g (suc i)) (λ i l. h (suc i) (omega arith)))
 
-  tab-snoc : (n : ℕ) (f : ℕ → A) → tabulate (suc n) f ≡ tabulate n f ++ (f n ∷ [])
+  pub tab-snoc : (n : ℕ) (f : ℕ → A) → tabulate (suc n) f ≡ tabulate n f ++ (f n ∷ [])
   unfolding tabulate
   tab-snoc zero f = refl
   tab-snoc (suc n) f = ap (λ l. f 0 ∷ l) (tab-snoc n (λ i. f (suc i)))

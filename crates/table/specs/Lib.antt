@@ -1,4 +1,4 @@
--- What a table says (parts, records, nodes, channels, sessions, and all of it by `decode`), and each change in bytes.
+-- What a table says (parts, records, nodes, channels, sessions, and all of it by `decode`), each change in bytes, and when a change fits.
 pub mod Tabulate
 pub mod Parts
 pub mod Letter

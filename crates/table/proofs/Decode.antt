@@ -1,0 +1,342 @@
+-- What a table says after a change is what the change makes of what it said. In order: the state field by field, each of the four changes, then the
+-- laws for any change and for many. That changes keep bytes is in Bytes; a fresh table is in Fresh. Assumes nothing.
+use Prim.Native.Nat.{ℕ, _-_, _≤_, _<_}
+use native.Mathlib.Omega.{arith}
+use mathlib.Core.Path.{_≡_, refl, sym, ap, _∙_}
+use mathlib.Core.Bool.{Bool, true, false, cond, not, _&&_}
+use mathlib.Core.List.{List, [], _∷_, _++_, tail}
+use lib.Dec.{T, ltb, eqb, lt→ltb}
+use lib.ListN.{length}
+use mir.Facts.{T-not, and-yes, yes-and, ltb-yes, eqb-yes, eqb-no, no-eqb}
+use Rattle.codec.specs.Le.{load}
+use Rattle.codec.specs.Part.{Keeps}
+use Rattle.vector.specs.Vec.{withEntry, atLeast}
+use Rattle.protocol.specs.Record.{Msg, stampIn, recordsIn}
+use Rattle.protocol.specs.State.{Session, State}
+use Rattle.protocol.specs.Change.{Change, SetSession, SetClock, Publish, Receive, upd, at, setClock, publish, receive, apply, applyAll}
+use Rattle.table.specs.Parts.{tableLength, placeOf, sessionOf, siteOf, nodeOf, channelOf, onSite, onNode, onChannel}
+use Rattle.table.specs.Node.{clockIn, heardIn, storeIn, clockSet, published, received}
+use Rattle.table.specs.Channel.{queueIn, pushed, popped}
+use Rattle.table.specs.Session.{sessionIn, putSession}
+use Rattle.table.specs.Decode.{settingIn, decode}
+use Rattle.table.specs.Put.{publishedOn, putChange, putChanges}
+use Rattle.table.specs.Fits.{FitsPublish, FitsReceive, Fits, FitsAll}
+use Rattle.table.proofs.Lengths.{length-clockSet, length-received, length-popped, length-putSession}
+use Rattle.table.proofs.Parts.{length-session, length-onSession, session-onSession, site-onSession, load-onSession, length-onSite, session-onSite, load-onSite, bytes-nodeOf, bytes-channelOf, length-nodeOf, length-channelOf}
+use Rattle.table.proofs.NodeBytes.{clock-clockSet, heard-clockSet, store-clockSet, clock-published, heard-published, store-published, clock-received, heard-received, store-received}
+use Rattle.table.proofs.ChannelBytes.{queue-pushed, queue-popped}
+use Rattle.table.proofs.SessionBytes.{session-putSession}
+use Rattle.table.proofs.Changes.{cond-no, cond-both, at-yes, sent, sentBy, sentBy-yes, sent-sentBy, taken, takenFrom, taken-takenFrom, place-lt, onNode-keeps, node-atNode, channel-atNode, onChannel-keeps, node-atChannel, channel-atChannel, publishedOn-keeps, node-atPublish, channel-atPublish}
+
+-- ---- a change keeps a thing's length
+
+putSession-keeps : (x : Session) → Keeps 128 (putSession x)
+putSession-keeps x s e = length-putSession x s ∙ e
+
+clockSet-keeps : (c : ℕ) → Keeps 1856 (clockSet c)
+clockSet-keeps c s e = length-clockSet c s ∙ e
+
+received-keeps : (i : ℕ) (x : Msg) → Keeps 1856 (received i x)
+received-keeps i x s e = length-received i x s ∙ e
+
+popped-keeps : Keeps 464 popped
+popped-keeps s e = length-popped s ∙ e
+
+-- ---- the state, field by field
+
+pub state-ext : (S U : State) → S .net .setting ≡ U .net .setting → ((m p : ℕ) → S .net .clock m p ≡ U .net .clock m p) → ((m p : ℕ) → S .net .heard m p ≡ U .net .heard m p) → ((m p : ℕ) → S .net .store m p ≡ U .net .store m p)
+    → ((i m p : ℕ) → S .net .chan i m p ≡ U .net .chan i m p) → ((s : ℕ) → S .session s ≡ U .session s) → S ≡ U
+state-ext S U setting clock heard store chan session = λ z.
+    record {
+      net = record { setting = setting z; clock = λ m p. clock m p z; heard = λ m p. heard m p z; store = λ m p. store m p z; chan = λ i m p. chan i m p z };
+      session = λ s. session s z;
+    }
+
+at-elim {ℓ} : (P : ℕ → ℕ → Type ℓ) (m p j q : ℕ) → P m p → T (at m p j q) → P j q
+at-elim P m p j q h b = let same = at-yes m p j q b in rw (same .0, same .1) h
+
+cond-read {ℓ κ} : {A : Type ℓ} {B : Type κ} (X : A → B) (b : Bool) (x y : A) (u : B) → (T b → X x ≡ u) → X (cond b x y) ≡ cond b u (X y)
+cond-read X true x y u e = e tt
+cond-read X false x y u e = refl
+
+cond-kept {ℓ κ} : {A : Type ℓ} {B : Type κ} (X : A → B) (b : Bool) (x y : A) → (T b → X x ≡ X y) → X (cond b x y) ≡ X y
+cond-kept X true x y e = e tt
+cond-kept X false x y e = refl
+
+-- what X reads of each node after f was done to node (m, p)
+module _ (t t′ : List ℕ) (m p : ℕ) (f : List ℕ → List ℕ) (step : (j q : ℕ) → nodeOf (siteOf t′ j) q ≡ cond (at m p j q) (f (nodeOf (siteOf t j) q)) (nodeOf (siteOf t j) q)) where
+  node-changed : {A : Type 0} (X : List ℕ → A) (U : ℕ → ℕ → A) → X (f (nodeOf (siteOf t m) p)) ≡ U m p → (j q : ℕ) → X (nodeOf (siteOf t′ j) q) ≡ cond (at m p j q) (U j q) (X (nodeOf (siteOf t j) q))
+  node-changed X U e j q =
+      ap X (step j q)
+      ∙ cond-read X (at m p j q) (f (nodeOf (siteOf t j) q)) (nodeOf (siteOf t j) q) (U j q) (at-elim (λ a b. X (f (nodeOf (siteOf t a) b)) ≡ U a b) m p j q e)
+
+  node-kept : {A : Type 0} (X : List ℕ → A) → X (f (nodeOf (siteOf t m) p)) ≡ X (nodeOf (siteOf t m) p) → (j q : ℕ) → X (nodeOf (siteOf t′ j) q) ≡ X (nodeOf (siteOf t j) q)
+  node-kept X e j q =
+      ap X (step j q)
+      ∙ cond-kept X (at m p j q) (f (nodeOf (siteOf t j) q)) (nodeOf (siteOf t j) q) (at-elim (λ a b. X (f (nodeOf (siteOf t a) b)) ≡ X (nodeOf (siteOf t a) b)) m p j q e)
+
+-- there is a channel from i to j
+abbrev isWay : (i j : ℕ) → Bool
+isWay i j = ltb j 4 && not (eqb i j)
+
+way-yes : (i j : ℕ) → T (isWay i j) → (j < 4) × (i ≡ j → ⊥)
+way-yes i j b = let both = and-yes (ltb j 4) (not (eqb i j)) b in (ltb-yes (both .0), eqb-no (both .1))
+
+yes-way : (i j : ℕ) → j < 4 → (i ≡ j → ⊥) → T (isWay i j)
+yes-way i j h d = yes-and (ltb j 4) (not (eqb i j)) (lt→ltb j 4 h) (no-eqb d)
+
+chan-kept : (t t′ : List ℕ) → ((i q e : ℕ) → channelOf (siteOf t′ i) q e ≡ channelOf (siteOf t i) q e) → (i j q : ℕ) → decode t′ .net .chan i j q ≡ decode t .net .chan i j q
+unfolding decode
+chan-kept t t′ step i j q = ap (λ c. cond (isWay i j) (queueIn c) []) (step i q (placeOf i j))
+
+-- f was done to the channels where `here` holds, which does g to the queues where `there` holds
+module _ (t t′ : List ℕ) (f : List ℕ → List ℕ) (g : List Msg → List Msg) (here there : ℕ → ℕ → ℕ → Bool)
+    (step : (i q e : ℕ) → channelOf (siteOf t′ i) q e ≡ cond (here i q e) (f (channelOf (siteOf t i) q e)) (channelOf (siteOf t i) q e))
+    (does : (i q e : ℕ) → T (here i q e) → queueIn (f (channelOf (siteOf t i) q e)) ≡ g (queueIn (channelOf (siteOf t i) q e)))
+    (agree : (i j q : ℕ) → T (isWay i j) → here i q (placeOf i j) ≡ there i j q)
+    (none : (i j q : ℕ) → T (not (isWay i j)) → [] ≡ cond (there i j q) (g []) []) where
+  chan-changed : (i j q : ℕ) → decode t′ .net .chan i j q ≡ cond (there i j q) (g (decode t .net .chan i j q)) (decode t .net .chan i j q)
+  unfolding decode
+  chan-changed i j q = go (isWay i j) (agree i j q) (none i j q)
+    where
+      go : (b : Bool) → (T b → here i q (placeOf i j) ≡ there i j q) → (T (not b) → [] ≡ cond (there i j q) (g []) [])
+          → cond b (queueIn (channelOf (siteOf t′ i) q (placeOf i j))) [] ≡ cond (there i j q) (g (cond b (queueIn (channelOf (siteOf t i) q (placeOf i j))) [])) (cond b (queueIn (channelOf (siteOf t i) q (placeOf i j))) [])
+      go true a n =
+          let c = channelOf (siteOf t i) q (placeOf i j) in
+          ap queueIn (step i q (placeOf i j))
+          ∙ cond-read queueIn (here i q (placeOf i j)) (f c) c (g (queueIn c)) (does i q (placeOf i j))
+          ∙ ap (λ b. cond b (g (queueIn c)) (queueIn c)) (a tt)
+      go false a n = n tt
+
+-- ---- what no change of site m touches
+
+module _ (t : List ℕ) (m : ℕ) (f : List ℕ → List ℕ) (l : length t ≡ tableLength) (h : m < 4) (keeps : Keeps 13056 f) where
+  setting-site : settingIn (onSite m f t) ≡ settingIn t
+  unfolding settingIn
+  setting-site = λ z. record { sites = load-onSite t m f l h keeps 1 0 (omega arith) z; parts = load-onSite t m f l h keeps 1 1 (omega arith) z }
+
+  sessions-site : (s : ℕ) → sessionIn (sessionOf (onSite m f t) s) ≡ sessionIn (sessionOf t s)
+  sessions-site s = ap sessionIn (session-onSite t m f l h keeps s)
+
+-- ---- a session is set
+
+module _ (s : ℕ) (x : Session) (t : List ℕ) (l : length t ≡ tableLength) (fit : Fits (SetSession s x) t) where
+  length-setSession : length (putChange (SetSession s x) t) ≡ length t
+  unfolding putChange
+  length-setSession = length-onSession t s (putSession x) l (fit .0) (putSession-keeps x)
+
+  setting-setSession : settingIn (putChange (SetSession s x) t) ≡ settingIn t
+  unfolding putChange settingIn
+  setting-setSession = λ z. record {
+    sites = load-onSession t s (putSession x) l (fit .0) (putSession-keeps x) 1 0 (omega arith) z;
+    parts = load-onSession t s (putSession x) l (fit .0) (putSession-keeps x) 1 1 (omega arith) z;
+  }
+
+  site-setSession : (m : ℕ) → siteOf (putChange (SetSession s x) t) m ≡ siteOf t m
+  unfolding putChange
+  site-setSession m = site-onSession t s (putSession x) l (fit .0) (putSession-keeps x) m
+
+  session-setSession : (r : ℕ) → sessionIn (sessionOf (putChange (SetSession s x) t) r) ≡ upd (λ i. sessionIn (sessionOf t i)) s x r
+  unfolding putChange upd
+  session-setSession r =
+      ap sessionIn (session-onSession t s (putSession x) l (fit .0) (putSession-keeps x) r)
+      ∙ cond-read sessionIn (eqb r s) (putSession x (sessionOf t r)) (sessionOf t r) x
+      (λ e. let q : r ≡ s = eqb-yes e in session-putSession x (sessionOf t r) (length-session t r l (omega (arith, fit .0))) (fit .1))
+
+  decode-setSession : decode (putChange (SetSession s x) t) ≡ apply (SetSession s x) (decode t)
+  unfolding decode apply
+  decode-setSession =
+      let u = putChange (SetSession s x) t in
+      state-ext (decode u) (apply (SetSession s x) (decode t))
+      setting-setSession
+      (λ m p. ap (λ b. clockIn (nodeOf b p)) (site-setSession m))
+      (λ m p. ap (λ b. heardIn (nodeOf b p)) (site-setSession m))
+      (λ m p. ap (λ b. storeIn (nodeOf b p)) (site-setSession m))
+      (chan-kept t u (λ i q e. ap (λ b. channelOf b q e) (site-setSession i)))
+      session-setSession
+
+-- ---- a clock is set
+
+module _ (m p c : ℕ) (t : List ℕ) (l : length t ≡ tableLength) (fit : Fits (SetClock m p c) t) where
+  keeps-setClock : Keeps 13056 (onNode p (clockSet c))
+  keeps-setClock = onNode-keeps t m p (clockSet c) l (fit .0) (fit .1) (clockSet-keeps c)
+
+  length-setClock : length (putChange (SetClock m p c) t) ≡ length t
+  unfolding putChange
+  length-setClock = length-onSite t m (onNode p (clockSet c)) l (fit .0) keeps-setClock
+
+  setting-setClock : settingIn (putChange (SetClock m p c) t) ≡ settingIn t
+  unfolding putChange
+  setting-setClock = setting-site t m (onNode p (clockSet c)) l (fit .0) keeps-setClock
+
+  decode-setClock : decode (putChange (SetClock m p c) t) ≡ apply (SetClock m p c) (decode t)
+  unfolding decode apply setClock putChange
+  decode-setClock =
+      let u = putChange (SetClock m p c) t in
+      let n = nodeOf (siteOf t m) p in
+      let step = node-atNode t m p (clockSet c) l (fit .0) (fit .1) (clockSet-keeps c) in
+      state-ext (decode u) (apply (SetClock m p c) (decode t))
+      setting-setClock
+      (node-changed t u m p (clockSet c) step clockIn (λ j q. c) (clock-clockSet c n (length-nodeOf t m p l (fit .0) (fit .1)) (fit .2)))
+      (node-kept t u m p (clockSet c) step heardIn (heard-clockSet c n))
+      (node-kept t u m p (clockSet c) step storeIn (store-clockSet c n))
+      (chan-kept t u (channel-atNode t m p (clockSet c) l (fit .0) (fit .1) (clockSet-keeps c)))
+      (sessions-site t m (onNode p (clockSet c)) l (fit .0) keeps-setClock)
+
+-- ---- a node publishes
+
+module _ (m p : ℕ) (x : Msg) (t : List ℕ) (l : length t ≡ tableLength) (fit : FitsPublish m p x t) where
+  few : load 1 t 0 - 1 ≤ 3
+  few = omega (arith, fit .sites)
+
+  there : m < 4
+  there = omega (arith, fit .site, fit .sites)
+
+  keeps-publish : Keeps 13056 (publishedOn (load 1 t 0 - 1) m p x)
+  keeps-publish = publishedOn-keeps t (load 1 t 0 - 1) m p x l there (fit .part) few
+
+  length-publish : length (putChange (Publish m p x) t) ≡ length t
+  unfolding putChange
+  length-publish = length-onSite t m (publishedOn (load 1 t 0 - 1) m p x) l there keeps-publish
+
+  setting-publish : settingIn (putChange (Publish m p x) t) ≡ settingIn t
+  unfolding putChange
+  setting-publish = setting-site t m (publishedOn (load 1 t 0 - 1) m p x) l there keeps-publish
+
+  sends : (i q e : ℕ) → T (sent (load 1 t 0) m p i q e) → queueIn (pushed m x (channelOf (siteOf t i) q e)) ≡ queueIn (channelOf (siteOf t i) q e) ++ (x ∷ [])
+  sends i q e b =
+      let both = and-yes (at m p i q) (ltb e (load 1 t 0 - 1)) b in
+      let g : e < load 1 t 0 - 1 = ltb-yes (both .1) in
+      at-elim (λ j r. queueIn (pushed m x (channelOf (siteOf t j) r e)) ≡ queueIn (channelOf (siteOf t j) r e) ++ (x ∷ [])) m p i q
+      (queue-pushed m x (channelOf (siteOf t m) p e) (length-channelOf t m p l there (fit .part) e (omega (arith, few))) (omega (arith, there)) (fit .msg) (fit .ways e g))
+      (both .0)
+
+  sends-none : (i j q : ℕ) → T (not (isWay i j)) → [] ≡ cond (sentBy (load 1 t 0) m p i j q) ([] ++ (x ∷ [])) []
+  sends-none i j q w =
+      cond-no (sentBy (load 1 t 0) m p i j q) (x ∷ []) []
+      (λ b.
+      let all = sentBy-yes (load 1 t 0) m p i j q b in
+      T-not (isWay i j) (yes-way i j (omega (arith, fit .sites)) (λ e. all .3 (omega arith))) w)
+
+  decode-publish : decode (putChange (Publish m p x) t) ≡ apply (Publish m p x) (decode t)
+  unfolding decode apply publish settingIn putChange
+  decode-publish =
+      let u = putChange (Publish m p x) t in
+      let n = nodeOf (siteOf t m) p in
+      let long = length-nodeOf t m p l there (fit .part) in
+      let step = node-atPublish t (load 1 t 0 - 1) m p x l there (fit .part) few in
+      state-ext (decode u) (apply (Publish m p x) (decode t))
+      setting-publish
+      (node-kept t u m p (published m x) step clockIn (clock-published m x n long there))
+      (node-changed t u m p (published m x) step heardIn (λ j q. withEntry (heardIn (nodeOf (siteOf t j) q)) m (stampIn x)) (heard-published m x n long there (fit .msg)))
+      (node-changed t u m p (published m x) step storeIn (λ j q. storeIn (nodeOf (siteOf t j) q) ++ recordsIn x) (store-published m x n long there (fit .msg) (fit .room)))
+      (chan-changed t u (pushed m x) (λ c. c ++ (x ∷ [])) (sent (load 1 t 0) m p) (sentBy (load 1 t 0) m p)
+      (channel-atPublish t (load 1 t 0 - 1) m p x l there (fit .part) few) sends (λ i j q w. sent-sentBy (load 1 t 0) m p i j q (fit .site) (way-yes i j w .1)) sends-none)
+      (sessions-site t m (publishedOn (load 1 t 0 - 1) m p x) l there keeps-publish)
+
+-- ---- a node receives: first it has the message, then the message leaves the channel
+
+module _ (i m p : ℕ) (x : Msg) (t : List ℕ) (l : length t ≡ tableLength) (fit : FitsReceive i m p x t) where
+  near : placeOf i m < 3
+  near = place-lt 4 i m (fit .source) (fit .site) (fit .other)
+
+  keeps-node : Keeps 13056 (onNode p (received i x))
+  keeps-node = onNode-keeps t m p (received i x) l (fit .site) (fit .part) (received-keeps i x)
+
+  length-node : length (onSite m (onNode p (received i x)) t) ≡ tableLength
+  length-node = length-onSite t m (onNode p (received i x)) l (fit .site) keeps-node ∙ l
+
+  keeps-channel : Keeps 13056 (onChannel p (placeOf i m) popped)
+  keeps-channel = onChannel-keeps (onSite m (onNode p (received i x)) t) i p (placeOf i m) popped length-node (fit .source) (fit .part) near popped-keeps
+
+  length-receive : length (putChange (Receive i m p x) t) ≡ length t
+  unfolding putChange
+  length-receive =
+      length-onSite (onSite m (onNode p (received i x)) t) i (onChannel p (placeOf i m) popped) length-node (fit .source) keeps-channel ∙ length-node ∙ sym l
+
+  setting-receive : settingIn (putChange (Receive i m p x) t) ≡ settingIn t
+  unfolding putChange
+  setting-receive =
+      setting-site (onSite m (onNode p (received i x)) t) i (onChannel p (placeOf i m) popped) length-node (fit .source) keeps-channel
+      ∙ setting-site t m (onNode p (received i x)) l (fit .site) keeps-node
+
+  session-receive : (s : ℕ) → sessionIn (sessionOf (putChange (Receive i m p x) t) s) ≡ sessionIn (sessionOf t s)
+  unfolding putChange
+  session-receive s =
+      sessions-site (onSite m (onNode p (received i x)) t) i (onChannel p (placeOf i m) popped) length-node (fit .source) keeps-channel s
+      ∙ sessions-site t m (onNode p (received i x)) l (fit .site) keeps-node s
+
+  node-receive : (j q : ℕ) → nodeOf (siteOf (putChange (Receive i m p x) t) j) q ≡ cond (at m p j q) (received i x (nodeOf (siteOf t j) q)) (nodeOf (siteOf t j) q)
+  unfolding putChange
+  node-receive j q =
+      node-atChannel (onSite m (onNode p (received i x)) t) i p (placeOf i m) popped length-node (fit .source) (fit .part) near popped-keeps j q
+      ∙ node-atNode t m p (received i x) l (fit .site) (fit .part) (received-keeps i x) j q
+
+  channel-receive : (h q e : ℕ) → channelOf (siteOf (putChange (Receive i m p x) t) h) q e ≡ cond (taken i m p h q e) (popped (channelOf (siteOf t h) q e)) (channelOf (siteOf t h) q e)
+  unfolding putChange
+  channel-receive h q e =
+      channel-atChannel (onSite m (onNode p (received i x)) t) i p (placeOf i m) popped length-node (fit .source) (fit .part) near popped-keeps h q e
+      ∙ ap (λ c. cond (taken i m p h q e) (popped c) c) (channel-atNode t m p (received i x) l (fit .site) (fit .part) (received-keeps i x) h q e)
+
+  takes : (h q e : ℕ) → T (taken i m p h q e) → queueIn (popped (channelOf (siteOf t h) q e)) ≡ tail (queueIn (channelOf (siteOf t h) q e))
+  takes h q e b =
+      let both = and-yes (at i p h q) (eqb e (placeOf i m)) b in
+      let same = at-yes i p h q (both .0) in
+      let g : e ≡ placeOf i m = eqb-yes (both .1) in
+      queue-popped (channelOf (siteOf t h) q e)
+      (length-channelOf t h q l (omega (arith, fit .source)) (omega (arith, fit .part)) e (omega (arith, near)))
+      (bytes-channelOf t (fit .bytes) h q e)
+
+  decode-receive : decode (putChange (Receive i m p x) t) ≡ apply (Receive i m p x) (decode t)
+  unfolding decode apply receive
+  decode-receive =
+      let u = putChange (Receive i m p x) t in
+      let n = nodeOf (siteOf t m) p in
+      let long = length-nodeOf t m p l (fit .site) (fit .part) in
+      let bytes = bytes-nodeOf t (fit .bytes) m p in
+      state-ext (decode u) (apply (Receive i m p x) (decode t))
+      setting-receive
+      (node-kept t u m p (received i x) node-receive clockIn (clock-received i x n long (fit .source)))
+      (node-changed t u m p (received i x) node-receive heardIn (λ j q. atLeast (heardIn (nodeOf (siteOf t j) q)) i (stampIn x)) (heard-received i x n long (fit .source) bytes (fit .msg)))
+      (node-changed t u m p (received i x) node-receive storeIn (λ j q. storeIn (nodeOf (siteOf t j) q) ++ recordsIn x) (store-received i x n long (fit .source) (fit .msg) (fit .room)))
+      (chan-changed t u popped tail (taken i m p) (takenFrom i m p) channel-receive takes
+      (λ h j q w. taken-takenFrom i m p h j q (fit .other) (way-yes h j w .1))
+      (λ h j q w. sym (cond-both (takenFrom i m p h j q) [])))
+      session-receive
+
+-- ---- any change, and many
+
+pub length-putChange : (c : Change) (t : List ℕ) → length t ≡ tableLength → Fits c t → length (putChange c t) ≡ length t
+length-putChange (SetSession s x) = length-setSession s x
+length-putChange (SetClock m p c) = length-setClock m p c
+length-putChange (Publish m p x) = length-publish m p x
+length-putChange (Receive i m p x) = length-receive i m p x
+
+pub setting-put : (c : Change) (t : List ℕ) → length t ≡ tableLength → Fits c t → settingIn (putChange c t) ≡ settingIn t
+setting-put (SetSession s x) = setting-setSession s x
+setting-put (SetClock m p c) = setting-setClock m p c
+setting-put (Publish m p x) = setting-publish m p x
+setting-put (Receive i m p x) = setting-receive i m p x
+
+pub decode-put : (c : Change) (t : List ℕ) → length t ≡ tableLength → Fits c t → decode (putChange c t) ≡ apply c (decode t)
+decode-put (SetSession s x) = decode-setSession s x
+decode-put (SetClock m p c) = decode-setClock m p c
+decode-put (Publish m p x) = decode-publish m p x
+decode-put (Receive i m p x) = decode-receive i m p x
+
+pub length-putChanges : (cs : List Change) (t : List ℕ) → length t ≡ tableLength → FitsAll cs t → length (putChanges cs t) ≡ length t
+unfolding putChanges
+length-putChanges [] t l fit = refl
+length-putChanges (c ∷ cs) t l fit =
+    let e = length-putChange c t l (fit .0) in length-putChanges cs (putChange c t) (e ∙ l) (fit .1) ∙ e
+
+pub setting-puts : (cs : List Change) (t : List ℕ) → length t ≡ tableLength → FitsAll cs t → settingIn (putChanges cs t) ≡ settingIn t
+unfolding putChanges
+setting-puts [] t l fit = refl
+setting-puts (c ∷ cs) t l fit = setting-puts cs (putChange c t) (length-putChange c t l (fit .0) ∙ l) (fit .1) ∙ setting-put c t l (fit .0)
+
+pub decode-puts : (cs : List Change) (t : List ℕ) → length t ≡ tableLength → FitsAll cs t → decode (putChanges cs t) ≡ applyAll cs (decode t)
+unfolding putChanges applyAll
+decode-puts [] t l fit = refl
+decode-puts (c ∷ cs) t l fit =
+    decode-puts cs (putChange c t) (length-putChange c t l (fit .0) ∙ l) (fit .1) ∙ ap (applyAll cs) (decode-put c t l (fit .0))
