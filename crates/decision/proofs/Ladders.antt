@@ -7,7 +7,7 @@ use mathlib.Core.List.{List, [], _∷_}
 use Rattle.vector.specs.Vec.{Vec, zeros, larger}
 use Rattle.protocol.specs.Record.{partOf, Rec, newest, ofKey, fitsPage, raisedBy}
 use Rattle.protocol.specs.State.{Session, noPage, closed, opened}
-use Rattle.protocol.specs.Event.{Event, OPEN, CLOSE, GET, BEGIN, READ, END, plain, shown}
+use Rattle.protocol.specs.Event.{OPEN, CLOSE, GET, BEGIN, READ, END, plain, shown}
 use Rattle.protocol.specs.declared.Answer.{Answer}
 use Rattle.protocol.specs.View.{place, look, viewAt, view}
 use Rattle.protocol.specs.Needs.{getReady, readReady, distinct, awaited, allRead, needs}

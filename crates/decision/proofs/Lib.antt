@@ -2,7 +2,7 @@
 pub mod Places
 pub mod Formed
 pub mod Told
-pub mod Whole
+pub mod Nested
 pub mod Backward
 pub mod Raised
 pub mod Ladders

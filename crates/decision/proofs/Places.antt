@@ -1,16 +1,15 @@
 -- The search by places is the protocol's search for the newest. In order: what is found at the place is the newest, the cases of one more record,
 -- the place's range, that the record there fits, and what fits a read of either kind. Assumes nothing.
-use Prim.Native.Nat.{ℕ, zero, suc, _+_, _-_, _≤_, _<_}
+use Prim.Native.Nat.{ℕ, zero, suc, _+_, _-_, _≤_}
 use native.Mathlib.Numerals.{add-one}
 use native.Mathlib.Omega.{arith}
 use borrow.Author.Tests.{eq-eqb, ne-eqb}
 use mathlib.Core.Path.{_≡_, refl, sym, ap, _∙_, fun-ext}
 use mathlib.Core.Bool.{Bool, true, false, cond, _&&_, _||_}
 use mathlib.Core.Logic.{_≢_}
-use mathlib.Core.Option.{Option, some, none}
-use mathlib.Core.List.{_++_, _∷_, []}
+use mathlib.Core.Option.{some, none}
 use lib.Dec.{T, eqb, eqb·suc-zero}
-use Rattle.vector.specs.Vec.{Vec, atMost}
+use Rattle.vector.specs.Vec.{Vec}
 use Rattle.protocol.specs.Record.{Setting, Rec, newer, newest, ofKey, fitsPage}
 use Rattle.protocol.proofs.Search.{laterOf, newest-snoc}
 use Rattle.table.specs.Tabulate.{tabulate}

@@ -1,9 +1,9 @@
 -- Vectors that were made from vectors of four entries are their entries again: none of these operations touches an entry beyond the width.
 -- Assumes nothing.
-use Prim.Native.Nat.{ℕ, max, _≤_, _<_}
+use Prim.Native.Nat.{ℕ, _≤_, _<_}
 use native.Mathlib.Decide.{decLt}
 use native.Mathlib.Omega.{arith}
-use mathlib.Core.Path.{_≡_, sym, refl, fun-ext, _∙_}
+use mathlib.Core.Path.{_≡_, sym, fun-ext, _∙_}
 use mathlib.Core.List.{List}
 use borrow.Author.Tests.{ne-eqb}
 use lib.ListN.{length, List·getD-eq-default}

@@ -3,7 +3,6 @@ use mathlib.Core.Path.{ap, _∙_}
 use mathlib.Core.Bool.{true, false}
 use borrow.Author.Needs.{needs}
 use lib.ListN.{replicate}
-use Rattle.vector.specs.Vec.{zeros}
 use Rattle.vector.specs.Entries.{entry}
 use Rattle.protocol.specs.State.{Session, noPage, opened}
 use Rattle.table.specs.Values.{asSession}

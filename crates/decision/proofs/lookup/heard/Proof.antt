@@ -3,7 +3,7 @@ use mathlib.Core.Path.{sym, ap, _∙_}
 use Rattle.vector.specs.Entries.{entry, loadVec}
 use Rattle.table.specs.Node.{heardIn}
 use Rattle.table.proofs.Values.{entry-loadVec}
-use Rattle.decision.proofs.Whole.{node-in-table}
+use Rattle.decision.proofs.Nested.{node-in-table}
 use borrow.Author.Needs.{needs}
 use Rattle.decision.proofs.lookup.heard.Statement.{statement}
 use Rattle.decision.proofs.lookup.heard.Tie as tie

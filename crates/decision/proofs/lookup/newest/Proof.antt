@@ -4,7 +4,7 @@ use mathlib.Core.Path.{subst}
 use Rattle.table.specs.Letter.{recordAt}
 use Rattle.table.specs.Node.{slotAt, heldIn}
 use Rattle.decision.proofs.Formed.{node-held, node-source}
-use Rattle.decision.proofs.Whole.{node-in-table}
+use Rattle.decision.proofs.Nested.{node-in-table}
 use borrow.Author.Needs.{needs}
 use Rattle.decision.proofs.lookup.newest.Statement.{statement}
 use Rattle.decision.proofs.lookup.newest.Tie as tie

@@ -32,7 +32,7 @@ is-open e = not-false _ (e .if1 .left)
 is-paged : (e : tie.Else2) → e .before .before .before .before .session .result .paged ≡ true
 is-paged e = not-false _ (e .if2 .left)
 
--- where the key's node is looked up
+-- the session that was loaded, from where its page's vector is taken
 loaded : tie.After-page → tie.After-session
 loaded c = c .before .before .before .before .before .before .before .before .before .before
 

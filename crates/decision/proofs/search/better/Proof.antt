@@ -1,5 +1,5 @@
 -- `decision::search::better` meets its contract: its returns are the cases of one more record. Assumes nothing.
-use mathlib.Core.Path.{_≡_, sym, _∙_}
+use mathlib.Core.Path.{sym, _∙_}
 use borrow.Author.Needs.{needs}
 use borrow.Author.Tests.{not-true, not-false}
 use Rattle.table.specs.Letter.{recordAt}

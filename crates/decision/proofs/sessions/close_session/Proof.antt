@@ -12,8 +12,11 @@ use Rattle.decision.proofs.sessions.close_session.Statement.{statement}
 use Rattle.decision.proofs.sessions.close_session.Tie as tie
 
 -- what is answered, by the session that was loaded
-says : (k : tie.After-session) → answered (decode (k .before .before .args .t .now)) (CLOSE (k .before .before .args .s)) ≡ closeOf (k .before .before .args .s) (asSession (k .session .result))
-says k = close-says (k .before .before .args .t .now) (k .before .before .args .s) (asSession (k .session .result)) (k .session .ensures .0)
+says : (k : tie.After-session) → let a = k .before .before .args in
+    answered (decode (a .t .now)) (CLOSE (a .s)) ≡ closeOf (a .s) (asSession (k .session .result))
+says k =
+    let a = k .before .before .args in
+    close-says (a .t .now) (a .s) (asSession (k .session .result)) (k .session .ensures .0)
 
 session-requires : tie.Need-session-requires
 session-requires c κs = search needs

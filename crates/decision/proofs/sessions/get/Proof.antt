@@ -19,26 +19,35 @@ use Rattle.decision.proofs.sessions.get.Tie as tie
 -- ---- what is known at the places of the code
 
 -- what is answered, by the session that was loaded
-says : (k : tie.After-session) → answered (decode (k .before .before .args .t .now)) (GET (k .before .before .args .s) (k .before .before .args .k)) ≡ getOf (k .before .before .args .t .now) (k .before .before .args .s) (k .before .before .args .k) (asSession (k .session .result))
-says k = get-says (k .before .before .args .t .now) (k .before .before .args .s) (asSession (k .session .result)) (k .session .ensures .0) (k .before .before .args .k)
+says : (k : tie.After-session) → let a = k .before .before .args in
+    answered (decode (a .t .now)) (GET (a .s) (a .k)) ≡ getOf (a .t .now) (a .s) (a .k) (asSession (k .session .result))
+says k =
+    let a = k .before .before .args in
+    get-says (a .t .now) (a .s) (asSession (k .session .result)) (k .session .ensures .0) (a .k)
 
 is-open : (e : tie.Else1) → e .before .before .session .result .open ≡ true
 is-open e = not-false _ (e .if1 .left)
 
+-- the session that was loaded, from where its vector is taken
+loaded : tie.After-vec → tie.After-session
+loaded c = c .before .before .before .before
+
 -- the test is the protocol's, of what the key's node has heard
-ready : (c : tie.After-at-most-but) → let k = c .before .before .before .before .before .before .before in
+ready : (c : tie.After-at-most-but) → let k = loaded (c .before .before .before) in
     let x = k .session .result in
-    c .at-most-but .result ≡ getReady (x .site) (heardBy (k .before .before .args .t .now) (x .site) (k .before .before .args .k)) (entry (x .vec .e))
-unfolding getReady
+    let a = k .before .before .args in
+    c .at-most-but .result ≡ getReady (x .site) (heardBy (a .t .now) (x .site) (a .k)) (entry (x .vec .e))
+unfolding getReady loaded
 ready c = c .at-most-but .ensures ∙ rw (c .before .heard .ensures, c .before .before .partition .ensures .0)
 
 -- and what is found the newest of its records
-shows : (c : tie.After-newest) → let k = c .before .before .before .before .before .before .before .before .before in
-    let t = k .before .before .args .t .now in
-    foundOf (c .newest .result) ≡ newest (settingIn t) (ofKey (k .before .before .args .k)) (storedBy t (k .session .result .site) (k .before .before .args .k))
+shows : (c : tie.After-newest) → let k = loaded (c .before .before .before .before .before) in
+    let a = k .before .before .args in
+    foundOf (c .newest .result) ≡ newest (settingIn (a .t .now)) (ofKey (a .k)) (storedBy (a .t .now) (k .session .result .site) (a .k))
+unfolding loaded
 shows c =
-    let t = c .before .before .before .before .before .before .before .before .before .before .before .args .t .now in
-    c .newest .ensures .0 (settingIn t) ∙ rw (fits-get, c .before .before .before .before .partition .ensures .0)
+    let k = loaded (c .before .before .before .before .before) in
+    c .newest .ensures .0 (settingIn (k .before .before .args .t .now)) ∙ rw (fits-get, c .before .before .before .before .partition .ensures .0)
 
 -- ---- the needs
 
@@ -82,7 +91,7 @@ refused-requires-3 : tie.Need-refused-requires-3
 refused-requires-3 c κs = search needs
 
 returns-3 : tie.Need-returns-3
-unfolding asSession
+unfolding asSession loaded
 returns-3 c =
     let u = c .before .before in
     let e2 = u .before .before .before .before in
@@ -108,14 +117,14 @@ kept-requires : tie.Need-kept-requires
 kept-requires c κs = search needs
 
 returns-4 : tie.Need-returns-4
-unfolding asSession
+unfolding asSession loaded
 returns-4 c =
     let w = c .before in
     let n = w .before .before .before in
     let u = n .before .before in
     let e2 = u .before .before .before .before in
     let k = e2 .before .before .before in
-    c .kept .ensures ∙ sym (says k ∙ rw (w .with-vector .ensures, w .before .before .raised-by .ensures, w .before .shown .ensures, shows n, is-open (e2 .before), e2 .if2 .left, sym (ready u), not-false (u .at-most-but .result) (n .before .if3 .left)))
+    c .kept .ensures ∙ sym (says k ∙ rw (is-open (e2 .before), w .with-vector .ensures, e2 .if2 .left, sym (ready u), not-false (u .at-most-but .result) (n .before .if3 .left), w .before .before .raised-by .ensures, w .before .shown .ensures, shows n))
 
 pub get-spec : {M : Type 1} → statement M
 get-spec =

@@ -11,8 +11,11 @@ use Rattle.decision.proofs.sessions.open_session.Statement.{statement}
 use Rattle.decision.proofs.sessions.open_session.Tie as tie
 
 -- what is answered, by the session that was loaded
-says : (k : tie.After-session) → answered (decode (k .before .before .args .t .now)) (OPEN (k .before .before .args .s) (k .before .before .args .m)) ≡ openOf (k .before .before .args .s) (k .before .before .args .m) (asSession (k .session .result))
-says k = open-says (k .before .before .args .t .now) (k .before .before .args .s) (asSession (k .session .result)) (k .session .ensures .0) (k .before .before .args .m)
+says : (k : tie.After-session) → let a = k .before .before .args in
+    answered (decode (a .t .now)) (OPEN (a .s) (a .m)) ≡ openOf (a .s) (a .m) (asSession (k .session .result))
+says k =
+    let a = k .before .before .args in
+    open-says (a .t .now) (a .s) (asSession (k .session .result)) (k .session .ensures .0) (a .m)
 
 session-requires : tie.Need-session-requires
 session-requires c κs = search needs
