@@ -4,6 +4,8 @@ use table::Message;
 use table::Session;
 use vector::Vector;
 
+pub mod writes;
+
 // What is then carried out. A delivery holds its message, which is numbers; an update's vector and a session stand beside the effect.
 pub enum Effect {
     Nothing,
