@@ -8,10 +8,11 @@ ghost use lib.ListN.{length};
 ghost use Rattle.codec.specs.Le.{load};
 ghost use Rattle.vector.specs.Vec.{allBelow};
 ghost use Rattle.protocol.specs.State.{closed};
-ghost use Rattle.protocol.specs.Event.{CLOCK, plain};
+ghost use Rattle.protocol.specs.Event.{CLOCK, BEAT, plain};
 ghost use Rattle.protocol.specs.declared.Answer.the-variants.{Refused};
 ghost use Rattle.protocol.specs.Serve.{_and_};
 ghost use Rattle.table.specs.Parts.{sessionOf, siteOf, nodeOf, channelOf};
+ghost use Rattle.table.specs.Node.{heardIn};
 ghost use Rattle.table.specs.Channel.{waitIn};
 ghost use Rattle.table.specs.Decode.{decode};
 ghost use Rattle.table.specs.Values.{asSession};
@@ -57,6 +58,15 @@ fn channel(t: &[u8], m: u8, p: u8, d: usize) -> &[u8]
     &part[off..end]
 }
 
+// What node (m, p) has heard of its own site: its latest stamp.
+fn own(t: &[u8], m: u8, p: u8) -> u64
+    requires { ⌜ (length (now t) ≡ 57344) × (m < 4) × (p < 4) ⌝ }
+    ensures { λ r. ⌜ r ≡ heardIn (nodeOf (siteOf (now (t .entry)) m) p) m ⌝ }
+{
+    let heard = nodes::heard(node(t, m, p)).e;
+    heard[m as usize]
+}
+
 // ---- what is decided where nothing stands beside the effect
 
 fn no_session() -> Session
@@ -100,6 +110,23 @@ fn refused(number: u8) -> Decided
     decided(Answer::Refused(refusal), Effect::Nothing)
 }
 
+// ---- room
+
+// Whether each outgoing channel of node (m, p) has a free one of its 8 places.
+fn has_room(t: &[u8], m: u8, p: u8) -> bool
+    requires { ⌜ (length (now t) ≡ 57344) × (1 ≤ load 1 (now t) 0) × (load 1 (now t) 0 ≤ 4) × (m < 4) × (p < 4) ⌝ }
+    ensures { λ r. ⌜ r ≡ allBelow (load 1 (now (t .entry)) 0 - 1) (λ d. ltb (waitIn (channelOf (siteOf (now (t .entry)) m) p d)) 8) ⌝ }
+{
+    let n = codec::load_u8(t, 0) as usize - 1;
+    let mut all = true;
+    let mut d = 0;
+    while d < n {
+        all = all & (channels::waiting(channel(t, m, p, d)) < 8);
+        d += 1;
+    }
+    all
+}
+
 // ---- an event each
 
 // "An equal time is done."
@@ -114,6 +141,26 @@ pub fn clock(t: &[u8], m: u8, p: u8, time: u64) -> Decided
         site: m,
         partition: p,
         time,
+    };
+    decided(Answer::Done, effect)
+}
+
+// "if the clock is greater than entry m": otherwise nothing is sent, and no room is asked for.
+pub fn beat(t: &[u8], m: u8, p: u8) -> Decided
+    requires { ⌜ (length (now t) ≡ 57344) × T (wellFormed (now t)) × (m < load 1 (now t) 0) × (p < load 1 (now t) 1) ⌝ }
+    ensures { λ r. ⌜ outcomeOf r ≡ answered (decode (now (t .entry))) (BEAT m p) ⌝ }
+{
+    let stamp = nodes::clock(node(t, m, p));
+    if stamp <= own(t, m, p) {
+        return decided(Answer::Done, Effect::Nothing);
+    }
+    if !has_room(t, m, p) {
+        return refused(21);
+    }
+    let effect = Effect::Beat {
+        site: m,
+        partition: p,
+        stamp,
     };
     decided(Answer::Done, effect)
 }
