@@ -1,0 +1,317 @@
+-- The facts of a well-formed table. In order: those of a session, a node, a channel, and the table, each with the test that they follow from and
+-- give back (`formed`, `well-formed`); then what the table says is lawful
+-- (`says-lawful`). Assumes nothing.
+use Prim.Native.Nat.{ℕ, zero, suc, _+_, _-_, _^_, _≤_, _<_}
+use native.Mathlib.Omega.{arith}
+use mathlib.Core.Path.{_≡_, sym, subst}
+use mathlib.Core.Logic.{_⊎_, inl, inr}
+use mathlib.Core.Bool.{Bool, true, false, cond, not, _&&_, _||_}
+use mathlib.Core.List.{List, [], List·Memᴰ·cases-cons, List·Memᴰ·not-nil}
+use lib.Dec.{T, leb, ltb, eqb}
+use lib.ListN.{length}
+use mir.Syntax.{w8}
+use mir.Val.{Fits}
+use mir.Facts.{fits-lit, and-yes, yes-and, ltb-yes, leb-yes, eqb-no, yes-ltb, yes-leb}
+use Rattle.codec.specs.Le.{load, span, Bytes}
+use Rattle.codec.proofs.Le.{load-lt}
+use Rattle.vector.specs.Vec.{allBelow}
+use Rattle.vector.proofs.Tests.{cond-elim}
+use Rattle.vector.proofs.Vec.{all-below-at, all-below}
+use Rattle.vector.proofs.Entries.{loadVec-beyond}
+use Rattle.protocol.specs.Record.{Setting, Rec, Msg}
+use Rattle.protocol.specs.State.{Mark}
+use Rattle.protocol.specs.Past.{_∈_}
+use Rattle.table.specs.Tabulate.{tabulate}
+use Rattle.table.specs.Parts.{placeOf, sessionOf, siteOf, nodeOf, channelOf}
+use Rattle.table.specs.Letter.{recordAt, messageAt}
+use Rattle.table.specs.Node.{slotAt, clockIn, heardIn, heldIn, storeIn}
+use Rattle.table.specs.Channel.{ringAt, frontIn, waitIn, queueIn}
+use Rattle.table.specs.Session.{markAt, sessionIn}
+use Rattle.table.specs.Decode.{settingIn, decode}
+use Rattle.table.specs.Fits.{FitsMarks}
+use Rattle.table.proofs.Tabulate.{tab-length}
+use Rattle.table.proofs.Parts.{every-session}
+use Rattle.table.proofs.Changes.{place-lt}
+use Rattle.lawful.specs.Values.{settingLawful, timeLawful, vecLawful, recordLawful, messageLawful, sessionLawful}
+use Rattle.lawful.specs.WellFormed.{flagsAt, sessionFormed, recordFormed, beatFormed, messageFormed, nodeFormed, channelFormed, siteFormed, wellFormed}
+use Rattle.lawful.proofs.Values.{ShortMsg, LawfulVec, vec-facts, LawfulRec, record-facts, LawfulMsg, message-facts, page-facts, LawfulSession, session-facts, LawfulState}
+
+-- ---- a session
+
+pub record SessionFacts (c : Setting) (b : List ℕ) : Type 0 where
+  pub isOpen : load 1 b 0 < 2
+  pub paged : load 1 b 2 < 2
+  pub marks : (i : ℕ) → i < 8 → load 1 b (16 + i) < 2
+  pub lawful : T (sessionLawful c (sessionIn b))
+
+module _ (c : Setting) (b : List ℕ) where
+  session-facts-of : T (sessionFormed c b) → SessionFacts c b
+  unfolding sessionFormed flagsAt
+  session-facts-of t =
+      let marks = allBelow 8 (λ i. ltb (load 1 b (16 + i)) 2) in
+      let all = and-yes (ltb (load 1 b 0) 2 && (ltb (load 1 b 2) 2 && marks)) (sessionLawful c (sessionIn b)) t in
+      let flags = and-yes (ltb (load 1 b 0) 2) (ltb (load 1 b 2) 2 && marks) (all .0) in
+      let more = and-yes (ltb (load 1 b 2) 2) marks (flags .1) in
+      record {
+        isOpen = ltb-yes (flags .0);
+        paged = ltb-yes (more .0);
+        marks = λ i h. ltb-yes (all-below-at 8 (λ i. ltb (load 1 b (16 + i)) 2) (more .1) i h);
+        lawful = all .1;
+      }
+
+  session-formed : SessionFacts c b → T (sessionFormed c b)
+  unfolding sessionFormed flagsAt
+  session-formed F =
+      let marks = allBelow 8 (λ i. ltb (load 1 b (16 + i)) 2) in
+      yes-and (ltb (load 1 b 0) 2 && (ltb (load 1 b 2) 2 && marks)) (sessionLawful c (sessionIn b))
+      (yes-and (ltb (load 1 b 0) 2) (ltb (load 1 b 2) 2 && marks) (yes-ltb (F .isOpen))
+      (yes-and (ltb (load 1 b 2) 2) marks (yes-ltb (F .paged)) (all-below 8 (λ i. ltb (load 1 b (16 + i)) 2) (λ i h. yes-ltb (F .marks i h)))))
+      (F .lawful)
+
+-- ---- a node
+
+pub record NodeFacts (c : Setting) (m p : ℕ) (n : List ℕ) : Type 0 where
+  pub clock : T (timeLawful (clockIn n))
+  pub heard : T (vecLawful c (heardIn n))
+  pub held : heldIn n ≤ cond (ltb m (c .sites) && ltb p (c .parts)) 32 0
+  pub slots : (k : ℕ) → k < heldIn n → T (recordFormed c p n (slotAt k))
+
+module _ (c : Setting) (m p : ℕ) (n : List ℕ) where
+  abbrev most-held : ℕ
+  most-held = cond (ltb m (c .sites) && ltb p (c .parts)) 32 0
+
+  node-facts : T (nodeFormed c m p n) → NodeFacts c m p n
+  unfolding nodeFormed
+  node-facts t =
+      let slots = allBelow (heldIn n) (λ k. recordFormed c p n (slotAt k)) in
+      let all = and-yes (timeLawful (clockIn n) && vecLawful c (heardIn n)) (leb (heldIn n) most-held && slots) t in
+      let times = and-yes (timeLawful (clockIn n)) (vecLawful c (heardIn n)) (all .0) in
+      let held = and-yes (leb (heldIn n) most-held) slots (all .1) in
+      record {
+        clock = times .0;
+        heard = times .1;
+        held = leb-yes (held .0);
+        slots = all-below-at (heldIn n) (λ k. recordFormed c p n (slotAt k)) (held .1);
+      }
+
+  node-formed : NodeFacts c m p n → T (nodeFormed c m p n)
+  unfolding nodeFormed
+  node-formed F =
+      let slots = allBelow (heldIn n) (λ k. recordFormed c p n (slotAt k)) in
+      yes-and (timeLawful (clockIn n) && vecLawful c (heardIn n)) (leb (heldIn n) most-held && slots)
+      (yes-and (timeLawful (clockIn n)) (vecLawful c (heardIn n)) (F .clock) (F .heard))
+      (yes-and (leb (heldIn n) most-held) slots (yes-leb (F .held)) (all-below (heldIn n) (λ k. recordFormed c p n (slotAt k)) (F .slots)))
+
+-- ---- a channel
+
+pub record ChannelFacts (c : Setting) (i p d : ℕ) (b : List ℕ) : Type 0 where
+  pub wait : waitIn b ≤ cond ((ltb i (c .sites) && ltb p (c .parts)) && ltb d (c .sites - 1)) 8 0
+  pub ring : (k : ℕ) → k < waitIn b → T (messageFormed c i p b (ringAt (frontIn b) k))
+
+module _ (c : Setting) (i p d : ℕ) (b : List ℕ) where
+  abbrev most-waiting : ℕ
+  most-waiting = cond ((ltb i (c .sites) && ltb p (c .parts)) && ltb d (c .sites - 1)) 8 0
+
+  channel-facts : T (channelFormed c i p d b) → ChannelFacts c i p d b
+  unfolding channelFormed
+  channel-facts t =
+      let all = and-yes (leb (waitIn b) most-waiting) (allBelow (waitIn b) (λ k. messageFormed c i p b (ringAt (frontIn b) k))) t in
+      record { wait = leb-yes (all .0); ring = all-below-at (waitIn b) (λ k. messageFormed c i p b (ringAt (frontIn b) k)) (all .1) }
+
+  channel-formed : ChannelFacts c i p d b → T (channelFormed c i p d b)
+  unfolding channelFormed
+  channel-formed F =
+      yes-and (leb (waitIn b) most-waiting) (allBelow (waitIn b) (λ k. messageFormed c i p b (ringAt (frontIn b) k))) (yes-leb (F .wait))
+      (all-below (waitIn b) (λ k. messageFormed c i p b (ringAt (frontIn b) k)) (F .ring))
+
+-- ---- a site
+
+module _ (c : Setting) (m : ℕ) (site : List ℕ) where
+  abbrev channels : ℕ → Bool
+  channels p = allBelow 3 (λ d. channelFormed c m p d (channelOf site p d))
+
+  site-facts : T (siteFormed c m site) → (p : ℕ) → p < 4 → NodeFacts c m p (nodeOf site p) × ((d : ℕ) → d < 3 → ChannelFacts c m p d (channelOf site p d))
+  unfolding siteFormed
+  site-facts t p h =
+      let both = and-yes (nodeFormed c m p (nodeOf site p)) (channels p) (all-below-at 4 (λ p. nodeFormed c m p (nodeOf site p) && channels p) t p h) in (
+        node-facts c m p (nodeOf site p) (both .0),
+        λ d g. channel-facts c m p d (channelOf site p d) (all-below-at 3 (λ d. channelFormed c m p d (channelOf site p d)) (both .1) d g),
+      )
+
+  site-formed : ((p : ℕ) → p < 4 → NodeFacts c m p (nodeOf site p)) → ((p d : ℕ) → p < 4 → d < 3 → ChannelFacts c m p d (channelOf site p d)) → T (siteFormed c m site)
+  unfolding siteFormed
+  site-formed node channel =
+      all-below 4 (λ p. nodeFormed c m p (nodeOf site p) && channels p)
+      (λ p h.
+      yes-and (nodeFormed c m p (nodeOf site p)) (channels p) (node-formed c m p (nodeOf site p) (node p h))
+      (all-below 3 (λ d. channelFormed c m p d (channelOf site p d)) (λ d g. channel-formed c m p d (channelOf site p d) (channel p d h g))))
+
+-- ---- the table
+
+pub record Formed (t : List ℕ) : Type 0 where
+  pub site : 0 < settingIn t .sites
+  pub sites : settingIn t .sites ≤ 4
+  pub part : 0 < settingIn t .parts
+  pub parts : settingIn t .parts ≤ 4
+  pub session : (s : ℕ) → s < 16 → SessionFacts (settingIn t) (sessionOf t s)
+  pub node : (m p : ℕ) → m < 4 → p < 4 → NodeFacts (settingIn t) m p (nodeOf (siteOf t m) p)
+  pub channel : (m p d : ℕ) → m < 4 → p < 4 → d < 3 → ChannelFacts (settingIn t) m p d (channelOf (siteOf t m) p d)
+
+pub setting-facts : (c : Setting) → T (settingLawful c) → (0 < c .sites) × (c .sites ≤ 4) × (0 < c .parts) × (c .parts ≤ 4)
+unfolding settingLawful
+setting-facts c t =
+    let both = and-yes (ltb 0 (c .sites) && leb (c .sites) 4) (ltb 0 (c .parts) && leb (c .parts) 4) t in
+    let sites = and-yes (ltb 0 (c .sites)) (leb (c .sites) 4) (both .0) in
+    let parts = and-yes (ltb 0 (c .parts)) (leb (c .parts) 4) (both .1) in (ltb-yes (sites .0), leb-yes (sites .1), ltb-yes (parts .0), leb-yes (parts .1))
+
+setting-lawful : (c : Setting) → 0 < c .sites → c .sites ≤ 4 → 0 < c .parts → c .parts ≤ 4 → T (settingLawful c)
+unfolding settingLawful
+setting-lawful c a b d e =
+    yes-and (ltb 0 (c .sites) && leb (c .sites) 4) (ltb 0 (c .parts) && leb (c .parts) 4)
+    (yes-and (ltb 0 (c .sites)) (leb (c .sites) 4) (yes-ltb a) (yes-leb b)) (yes-and (ltb 0 (c .parts)) (leb (c .parts) 4) (yes-ltb d) (yes-leb e))
+
+module _ (t : List ℕ) where
+  abbrev sessions : Bool
+  sessions = allBelow 16 (λ s. sessionFormed (settingIn t) (sessionOf t s))
+
+  abbrev all-sites : Bool
+  all-sites = allBelow 4 (λ m. siteFormed (settingIn t) m (siteOf t m))
+
+  pub formed : T (wellFormed t) → Formed t
+  unfolding wellFormed
+  formed w =
+      let c = settingIn t in
+      let all = and-yes (settingLawful c) (sessions && all-sites) w in
+      let fixed = setting-facts c (all .0) in
+      let parts = and-yes sessions all-sites (all .1) in
+      let site : (m : ℕ) → m < 4 → T (siteFormed c m (siteOf t m)) = all-below-at 4 (λ m. siteFormed c m (siteOf t m)) (parts .1) in
+      record {
+        site = fixed .0;
+        sites = fixed .1;
+        part = fixed .2;
+        parts = fixed .3;
+        session = λ s h. session-facts-of c (sessionOf t s) (all-below-at 16 (λ s. sessionFormed c (sessionOf t s)) (parts .0) s h);
+        node = λ m p h g. site-facts c m (siteOf t m) (site m h) p g .0;
+        channel = λ m p d h g. site-facts c m (siteOf t m) (site m h) p g .1 d;
+      }
+
+  pub well-formed : Formed t → T (wellFormed t)
+  unfolding wellFormed
+  well-formed F =
+      let c = settingIn t in
+      yes-and (settingLawful c) (sessions && all-sites) (setting-lawful c (F .site) (F .sites) (F .part) (F .parts))
+      (yes-and sessions all-sites (all-below 16 (λ s. sessionFormed c (sessionOf t s)) (λ s h. session-formed c (sessionOf t s) (F .session s h)))
+      (all-below 4 (λ m. siteFormed c m (siteOf t m)) (λ m h. site-formed c m (siteOf t m) (λ p. F .node m p h) (λ p d. F .channel m p d h))))
+
+-- ---- what a table says is lawful
+
+-- what holds of a function's first n values holds of each element of their list
+tab-each : {A : Type 0} (P : A → Type 0) (n : ℕ) (f : ℕ → A) → ((i : ℕ) → i < n → P (f i)) → (a : A) → a ∈ tabulate n f → P a
+unfolding tabulate
+tab-each P zero f h a m = absurd (List·Memᴰ·not-nil m)
+tab-each P (suc n) f h a m = go (tab-each P n (λ i. f (suc i)) (λ i l. h (suc i) (omega arith)) a) (List·Memᴰ·cases-cons m)
+  where
+    go : (a ∈ tabulate n (λ i. f (suc i)) → P a) → (a ≡ f 0) ⊎ (a ∈ tabulate n (λ i. f (suc i))) → P a
+    go r (inl e) = subst P (sym e) (h 0 (omega arith))
+    go r (inr k) = r k
+
+marks-read : (n : ℕ) (f : ℕ → Mark) → ((i : ℕ) → f i .key < 256) → FitsMarks (tabulate n f)
+unfolding tabulate
+marks-read zero f h = tt
+marks-read (suc n) f h = (h 0, marks-read n (λ i. f (suc i)) (λ i. h (suc i)))
+
+session-read : (c : Setting) (b : List ℕ) → Bytes b → T (sessionLawful c (sessionIn b)) → LawfulSession c (sessionIn b)
+unfolding sessionIn markAt span
+session-read c b bytes t =
+    session-facts c (sessionIn b) t (load-lt 1 b 1 bytes) (loadVec-beyond b 32)
+    (λ g. page-facts c (sessionIn b .page) g (marks-read (load 1 b 3) (markAt b) (λ i. load-lt 1 b (8 + i) bytes)) (loadVec-beyond b 64) (loadVec-beyond b 96))
+
+record-read : (c : Setting) (p : ℕ) (n : List ℕ) (at : ℕ) → T (recordFormed c p n at) → LawfulRec c p (recordAt n at)
+unfolding recordFormed recordAt
+record-read c p n at t =
+    record-facts c p (recordAt n at) (and-yes (eqb (load 1 n (at + 3)) 1) (recordLawful c p (recordAt n at)) t .1) (loadVec-beyond n (at + 16))
+
+short-read : (b : List ℕ) (at : ℕ) → ShortMsg (messageAt b at)
+unfolding messageAt recordAt
+short-read b at = cond-elim ShortMsg (eqb (load 1 b (at + 3)) 1) (λ e. loadVec-beyond b (at + 16)) (λ e. tt)
+
+message-read : (c : Setting) (i p : ℕ) (b : List ℕ) (at : ℕ) → T (messageFormed c i p b at) → LawfulMsg c i p (messageAt b at)
+unfolding messageFormed
+message-read c i p b at t =
+    message-facts c i p (messageAt b at)
+    (and-yes (eqb (load 1 b (at + 3)) 1 || (eqb (load 1 b (at + 3)) 2 && beatFormed i b at)) (messageLawful c i p (messageAt b at)) t .1) (short-read b at)
+
+cond-le : (b : Bool) (k n : ℕ) → n ≤ cond b k 0 → n ≤ k
+cond-le true k n h = h
+cond-le false k n h = omega arith
+
+pub store-length : (t : List ℕ) (m p : ℕ) → length (decode t .net .store m p) ≡ heldIn (nodeOf (siteOf t m) p)
+unfolding decode storeIn
+store-length t m p = tab-length (heldIn (nodeOf (siteOf t m) p)) (λ k. recordAt (nodeOf (siteOf t m) p) (slotAt k))
+
+module _ (t : List ℕ) (F : Formed t) where
+  session-said : Bytes t → (s : ℕ) → s < 16 → LawfulSession (settingIn t) (decode t .session s)
+  unfolding decode
+  session-said bytes s h =
+      session-read (settingIn t) (sessionOf t s) (every-session (Fits w8) (fits-lit tt) t s (λ i b. bytes i)) (F .session s h .lawful)
+
+  module _ (m p : ℕ) (h : m < 4) (g : p < 4) where
+    clock-said : decode t .net .clock m p < 2 ^ 48
+    unfolding decode timeLawful
+    clock-said = ltb-yes (F .node m p h g .clock)
+
+    heard-said : LawfulVec (settingIn t) (decode t .net .heard m p)
+    unfolding decode heardIn
+    heard-said = vec-facts (settingIn t) (heardIn (nodeOf (siteOf t m) p)) (F .node m p h g .heard) (loadVec-beyond (nodeOf (siteOf t m) p) 8)
+
+    store-most : length (decode t .net .store m p) ≤ 32
+    store-most =
+        omega (arith, store-length t m p, cond-le (ltb m (settingIn t .sites) && ltb p (settingIn t .parts)) 32 (heldIn (nodeOf (siteOf t m) p)) (F .node m p h g .held))
+
+    store-said : (r : Rec) → r ∈ decode t .net .store m p → LawfulRec (settingIn t) p r
+    unfolding decode storeIn
+    store-said =
+        let n = nodeOf (siteOf t m) p in
+        tab-each (LawfulRec (settingIn t) p) (heldIn n) (λ k. recordAt n (slotAt k)) (λ k b. record-read (settingIn t) p n (slotAt k) (F .node m p h g .slots k b))
+
+  -- there is a channel from i to m, or nothing waits
+  module _ (i m p : ℕ) (h : i < 4) (g : p < 4) where
+    way : (P : List Msg → Type 0) → P [] → ((d : ℕ) → d < 3 → P (queueIn (channelOf (siteOf t i) p d))) → P (decode t .net .chan i m p)
+    unfolding decode
+    way P none some =
+        cond-elim P (ltb m 4 && not (eqb i m))
+        (λ b.
+        let both = and-yes (ltb m 4) (not (eqb i m)) b in
+        some (placeOf i m) (place-lt 4 i m h (ltb-yes (both .0)) (eqb-no (both .1)))) (λ b. none)
+
+    chan-most : length (decode t .net .chan i m p) ≤ 8
+    unfolding queueIn
+    chan-most =
+        way (λ q. length q ≤ 8) (omega arith)
+        (λ d b.
+        let w = channelOf (siteOf t i) p d in
+        let c = settingIn t in
+        omega (arith, tab-length (waitIn w) (λ k. messageAt w (ringAt (frontIn w) k)), cond-le ((ltb i (c .sites) && ltb p (c .parts)) && ltb d (c .sites - 1)) 8 (waitIn w) (F .channel i p d h g b .wait)))
+
+    chan-said : (x : Msg) → x ∈ decode t .net .chan i m p → LawfulMsg (settingIn t) i p x
+    unfolding queueIn
+    chan-said =
+        way (λ q. (x : Msg) → x ∈ q → LawfulMsg (settingIn t) i p x) (λ x k. absurd (List·Memᴰ·not-nil k))
+        (λ d b.
+        let w = channelOf (siteOf t i) p d in
+        tab-each (LawfulMsg (settingIn t) i p) (waitIn w) (λ k. messageAt w (ringAt (frontIn w) k)) (λ k l. message-read (settingIn t) i p w (ringAt (frontIn w) k) (F .channel i p d h g b .ring k l)))
+
+  pub says-lawful : Bytes t → LawfulState (decode t)
+  unfolding decode
+  says-lawful bytes = record {
+    sites = F .sites;
+    part = F .part;
+    parts = F .parts;
+    session = session-said bytes;
+    clock = clock-said;
+    heard = heard-said;
+    store = store-said;
+    held = store-most;
+    chan = chan-said;
+    wait = chan-most;
+  }

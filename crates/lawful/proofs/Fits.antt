@@ -1,0 +1,96 @@
+-- What a step changes fits a well-formed table. In order: the lists that a table says and its bytes' counts, a lawful change fits, many, and every
+-- step (`step-fits`). Assumes nothing.
+use Prim.Native.Nat.{ℕ, _+_, _-_, _≤_, _<_}
+use native.Mathlib.Decide.{decLt}
+use native.Mathlib.Omega.{arith}
+use mathlib.Core.Path.{_≡_, sym, ap, subst, _∙_}
+use mathlib.Core.List.{List, [], _∷_}
+use lib.Dec.{T}
+use lib.ListN.{length}
+use borrow.Author.Tests.{lt-ltb, le-ltb, ne-eqb}
+use Rattle.codec.specs.Le.{Bytes}
+use Rattle.protocol.specs.Record.{Msg, Update, Beat}
+use Rattle.protocol.specs.Event.{Event}
+use Rattle.protocol.specs.Change.{Change, SetSession, SetClock, Publish, Receive}
+use Rattle.protocol.specs.Step.{step}
+use Rattle.table.specs.Parts.{tableLength, placeOf, siteOf, nodeOf, channelOf}
+use Rattle.table.specs.Letter.{messageAt}
+use Rattle.table.specs.Channel.{ringAt, frontIn, waitIn, queueIn}
+use Rattle.table.specs.Decode.{settingIn, decode}
+use Rattle.table.specs.Put.{putChange}
+use Rattle.table.specs.Fits.{RoomFor, Fits, FitsAll}
+use Rattle.table.proofs.Tabulate.{tab-length}
+use Rattle.table.proofs.Bytes.{bytes-putChange}
+use Rattle.table.proofs.Decode.{length-putChange, setting-put, decode-put}
+use Rattle.lawful.specs.WellFormed.{wellFormed}
+use Rattle.lawful.proofs.Values.{time-fits, message-fits, session-fits}
+use Rattle.lawful.proofs.Facts.{formed, store-length, says-lawful}
+use Rattle.lawful.proofs.Served.{RoomIn, Lawful, LawfulAll, step-lawful}
+
+-- ---- the lists that a table says, and its bytes' counts
+
+-- each place below n - 1 is that of one of the n sites other than i
+pub record Other (n i d : ℕ) : Type 0 where
+  pub site : ℕ
+  pub there : site < n
+  pub other : site ≡ i → ⊥
+  pub place : placeOf i site ≡ d
+
+pub other-at : (n i d : ℕ) → i < n → d < n - 1 → Other n i d
+unfolding placeOf
+other-at n i d h g = go (decLt d i)
+  where
+    go : Dec (d < i) → Other n i d
+    go (yes b) = record { site = d; there = omega arith; other = λ e. omega arith; place = rw (lt-ltb d i b) }
+    go (no b) = record { site = d + 1; there = omega arith; other = λ e. omega arith; place = rw (le-ltb (d + 1) i (omega arith)) (omega arith) }
+
+pub chan-length : (t : List ℕ) (i m p : ℕ) → m < 4 → (i ≡ m → ⊥) → length (decode t .net .chan i m p) ≡ waitIn (channelOf (siteOf t i) p (placeOf i m))
+unfolding decode queueIn
+chan-length t i m p h d =
+    let w = channelOf (siteOf t i) p (placeOf i m) in
+    rw (lt-ltb m 4 h, ne-eqb i m d) (tab-length (waitIn w) (λ k. messageAt w (ringAt (frontIn w) k)))
+
+room-for : (t : List ℕ) (m p : ℕ) (x : Msg) → RoomIn x (decode t .net .store m p) → RoomFor x (nodeOf (siteOf t m) p)
+room-for t m p (Update r) room = omega (arith, store-length t m p)
+room-for t m p (Beat s) room = tt
+
+-- ---- changes
+
+pub lawful-fits : (c : Change) (t : List ℕ) → settingIn t .sites ≤ 4 → settingIn t .parts ≤ 4 → Bytes t → Lawful c (decode t) → Fits c t
+unfolding decode settingIn
+lawful-fits (SetSession s x) t few few′ bytes ok = (ok .0, session-fits (settingIn t) x few (ok .1))
+lawful-fits (SetClock m p c) t few few′ bytes ok = (omega (arith, ok .0), omega (arith, ok .1), time-fits c (ok .2))
+lawful-fits (Publish m p x) t few few′ bytes ok = record {
+  site = ok .site;
+  sites = few;
+  part = omega (arith, ok .part);
+  msg = message-fits (settingIn t) m p x few (ok .msg);
+  room = room-for t m p x (ok .room);
+  ways = λ d h.
+      let o = other-at (settingIn t .sites) m d (ok .site) h in
+      let e = chan-length t m (o .site) p (omega (arith, o .there)) (λ q. o .other (sym q)) in
+      let f = ap (λ k. waitIn (channelOf (siteOf t m) p k)) (o .place) in omega (arith, ok .ways (o .site) (o .there) (o .other));
+}
+lawful-fits (Receive i m p x) t few few′ bytes ok = record {
+  source = omega (arith, ok .source);
+  site = omega (arith, ok .site);
+  other = ok .other;
+  part = omega (arith, ok .part);
+  msg = message-fits (settingIn t) i p x few (ok .msg);
+  room = room-for t m p x (ok .room);
+  bytes = bytes;
+}
+
+all-fit : (cs : List Change) (t : List ℕ) → length t ≡ tableLength → settingIn t .sites ≤ 4 → settingIn t .parts ≤ 4 → Bytes t → LawfulAll cs (decode t) → FitsAll cs t
+all-fit [] t l few few′ bytes ok = tt
+all-fit (c ∷ cs) t l few few′ bytes ok =
+    let fit = lawful-fits c t few few′ bytes (ok .0) in
+    let same = setting-put c t l fit in (
+      fit,
+      all-fit cs (putChange c t) (length-putChange c t l fit ∙ l) (subst (λ k. k .sites ≤ 4) (sym same) few) (subst (λ k. k .parts ≤ 4) (sym same) few′)
+          (bytes-putChange c t bytes) (subst (LawfulAll cs) (sym (decode-put c t l fit)) (ok .1)),
+    )
+
+pub step-fits : (t : List ℕ) → length t ≡ tableLength → Bytes t → T (wellFormed t) → (e : Event) → FitsAll (step (decode t) e .changes) t
+step-fits t l bytes w e =
+    let F = formed t w in all-fit (step (decode t) e .changes) t l (F .sites) (F .parts) bytes (step-lawful (decode t) (says-lawful t F bytes) e)

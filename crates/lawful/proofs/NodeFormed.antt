@@ -1,0 +1,127 @@
+-- A node's bytes stay well formed: when its clock is set, and when a stamp and a lawful message come to it. In order: the clock, a stamp in one
+-- entry, an update stored behind the others, then its own message and another's. Assumes nothing.
+use Prim.Native.Nat.{ℕ, _+_, _*_, _^_, max, _≤_, _<_}
+use native.Mathlib.Omega.{arith}
+use mathlib.Core.Path.{_≡_, _∙_}
+use mathlib.Core.List.{List}
+use lib.Dec.{T}
+use lib.ListN.{length}
+use mir.Facts.{yes-ltb}
+use borrow.Author.Count.{below-more}
+use borrow.Author.Tests.{lt-ltb}
+use Rattle.codec.specs.Le.{load, put, span, Apart}
+use Rattle.codec.proofs.Le.{length-put, load-put, load-put-other}
+use Rattle.vector.specs.Vec.{width, withEntry}
+use Rattle.vector.proofs.Entries.{loadVec-below, loadVec-beyond}
+use Rattle.protocol.specs.Record.{Setting, Rec, Msg, Update, Beat, stampIn}
+use Rattle.table.specs.Letter.{putRecord}
+use Rattle.table.specs.Node.{slotAt, clockIn, heardIn, heldIn, clockSet, stored, published, received}
+use Rattle.table.specs.Fits.{RoomFor}
+use Rattle.table.proofs.Lengths.{length-putRecord}
+use Rattle.table.proofs.LetterBytes.{loadVec-ext, load-putRecord-other}
+use Rattle.table.proofs.NodeBytes.{clock-clockSet, heard-clockSet, clock-published, heard-published}
+use Rattle.lawful.specs.Values.{timeLawful, vecLawful}
+use Rattle.lawful.specs.WellFormed.{recordFormed}
+use Rattle.lawful.proofs.Values.{time-fits, LawfulVec, vec-facts, vec-lawful, with-entry-lawful, LawfulRec, LawfulMsg, stamp-lawful}
+use Rattle.lawful.proofs.Facts.{NodeFacts}
+use Rattle.lawful.proofs.LetterFormed.{record-formed-ext, record-formed-put}
+
+module _ (c : Setting) (m p : ℕ) where
+  -- ---- a put before the records
+
+  module _ (n : List ℕ) (w at v : ℕ) (h : at + w ≤ 40) where
+    held-before : heldIn (put w n at v) ≡ heldIn n
+    unfolding heldIn
+    held-before = load-put-other 1 w n at v 40 (λ k a b d e. omega arith)
+
+    facts-before : T (timeLawful (clockIn (put w n at v))) → T (vecLawful c (heardIn (put w n at v))) → NodeFacts c m p n → NodeFacts c m p (put w n at v)
+    facts-before clock heard F = record {
+      clock = clock;
+      heard = heard;
+      held = rw held-before (F .held);
+      slots = λ k b. rw (record-formed-ext c p (put w n at v) n (slotAt k) (λ u j a d. load-put-other u w n at v j (λ i e f g l. omega arith))) (F .slots k (omega (arith, held-before)));
+    }
+
+  pub clock-kept : (t : ℕ) (n : List ℕ) → length n ≡ 1856 → t < 2 ^ 48 → NodeFacts c m p n → NodeFacts c m p (clockSet t n)
+  unfolding clockSet timeLawful
+  clock-kept t n l h F =
+      facts-before n 8 0 t (omega arith) (rw (clock-clockSet t n l (time-fits t h)) (yes-ltb h))
+      (rw (heard-clockSet t n) (F .heard)) F
+
+  heard-lawful : (n : List ℕ) → NodeFacts c m p n → LawfulVec c (heardIn n)
+  unfolding heardIn
+  heard-lawful n F = vec-facts c (heardIn n) (F .heard) (loadVec-beyond n 8)
+
+  -- ---- a stamp in entry i
+
+  module _ (n : List ℕ) (i v : ℕ) (l : length n ≡ 1856) (few : c .sites ≤ 4) (h : i < c .sites) (b : v < 2 ^ 48) where
+    entry-kept : NodeFacts c m p n → NodeFacts c m p (put 8 n (8 + 8 * i) v)
+    unfolding published stored stampIn
+    entry-kept F =
+        let clock : clockIn (put 8 n (8 + 8 * i) v) ≡ clockIn n = clock-published i (Beat v) n l (omega arith) in
+        let heard : heardIn (put 8 n (8 + 8 * i) v) ≡ withEntry (heardIn n) i v = heard-published i (Beat v) n l (omega arith) (time-fits v b) in
+        facts-before n 8 (8 + 8 * i) v (omega arith) (rw clock (F .clock))
+        (rw heard (vec-lawful c (withEntry (heardIn n) i v) (with-entry-lawful c (heardIn n) i v (heard-lawful n F) h b))) F
+
+  -- ---- an update stored behind the others
+
+  module _ (r : Rec) (n : List ℕ) (l : length n ≡ 1856) (room : heldIn n < 32) where
+    abbrev u : List ℕ
+    u = putRecord n (slotAt (heldIn n)) r
+
+    load-update : (w j : ℕ) → Apart j w 40 1 → Apart j w (slotAt (heldIn n)) 48 → load w (stored (Update r) n) j ≡ load w n j
+    unfolding stored
+    load-update w j o o′ = load-put-other w 1 u 40 (heldIn n + 1) j o ∙ load-putRecord-other n (slotAt (heldIn n)) r w j o′
+
+    held-update : heldIn (stored (Update r) n) ≡ heldIn n + 1
+    unfolding stored heldIn span
+    held-update = load-put 1 u 40 (heldIn n + 1) (omega (arith, length-putRecord n (slotAt (heldIn n)) r)) (omega arith)
+
+    clock-update : clockIn (stored (Update r) n) ≡ clockIn n
+    unfolding clockIn
+    clock-update = load-update 8 0 (λ k a b d e. omega arith) (λ k a b d e. omega arith)
+
+    heard-update : heardIn (stored (Update r) n) ≡ heardIn n
+    unfolding heardIn
+    heard-update = loadVec-ext (stored (Update r) n) n 8 (λ i g. load-update 8 (8 + 8 * i) (λ k a b d e. omega arith) (λ k a b d e. omega arith))
+
+    slots-update : c .sites ≤ 4 → LawfulRec c p r → NodeFacts c m p n → (k : ℕ) → k < heldIn n + 1 → T (recordFormed c p (stored (Update r) n) (slotAt k))
+    slots-update few ok F =
+        below-more (λ k. T (recordFormed c p (stored (Update r) n) (slotAt k))) (heldIn n)
+        (λ k g.
+        rw (record-formed-ext c p (stored (Update r) n) n (slotAt k) (λ w j a b. load-update w j (λ i d e f h. omega arith) (λ i d e f h. omega arith)))
+        (F .slots k g))
+        (rw (record-formed-ext c p (stored (Update r) n) u (slotAt (heldIn n)) (λ w j a b. unfold stored in load-put-other w 1 u 40 (heldIn n + 1) j (λ i d e f h. omega arith)))
+        (record-formed-put c few p n (slotAt (heldIn n)) (omega arith) r ok))
+
+  module _ (few : c .sites ≤ 4) (site : m < c .sites) (part : p < c .parts) where
+    stored-kept : (i : ℕ) (x : Msg) (n : List ℕ) → length n ≡ 1856 → LawfulMsg c i p x → RoomFor x n → NodeFacts c m p n → NodeFacts c m p (stored x n)
+    stored-kept i (Update r) n l ok room F = record {
+      clock = rw (clock-update r n l room) (F .clock);
+      heard = rw (heard-update r n l room) (F .heard);
+      held = rw (lt-ltb m (c .sites) site, lt-ltb p (c .parts) part) (omega (arith, held-update r n l room));
+      slots = λ k b. slots-update r n l room few (ok .1) F k (omega (arith, held-update r n l room));
+    }
+    stored-kept i (Beat t) n l ok room F = unfold stored in F
+
+    room-entry : (x : Msg) (n : List ℕ) (i v : ℕ) → i < 4 → RoomFor x n → RoomFor x (put 8 n (8 + 8 * i) v)
+    room-entry (Update r) n i v h room = omega (arith, held-before n 8 (8 + 8 * i) v (omega arith))
+    room-entry (Beat t) n i v h room = tt
+
+    -- a lawful message of site i, with a stamp in its entry
+    message-kept : (i v : ℕ) (x : Msg) (n : List ℕ) → length n ≡ 1856 → i < c .sites → v < 2 ^ 48 → LawfulMsg c i p x → RoomFor x n → NodeFacts c m p n → NodeFacts c m p (stored x (put 8 n (8 + 8 * i) v))
+    message-kept i v x n l h b ok room F =
+        stored-kept i x (put 8 n (8 + 8 * i) v) (length-put 8 n (8 + 8 * i) v ∙ l) ok (room-entry x n i v (omega arith) room) (entry-kept n i v l few h b F)
+
+    -- ---- its own message, and another's
+
+    pub published-kept : (x : Msg) (n : List ℕ) → length n ≡ 1856 → LawfulMsg c m p x → RoomFor x n → NodeFacts c m p n → NodeFacts c m p (published m x n)
+    unfolding published
+    published-kept x n l ok room F = message-kept m (stampIn x) x n l site (stamp-lawful c m p x ok) ok room F
+
+    pub received-kept : (i : ℕ) (x : Msg) (n : List ℕ) → length n ≡ 1856 → i < c .sites → LawfulMsg c i p x → RoomFor x n → NodeFacts c m p n → NodeFacts c m p (received i x n)
+    unfolding received heardIn width
+    received-kept i x n l h ok room F =
+        let old = heard-lawful n F .below i in
+        let is = loadVec-below n 8 i (omega arith) in
+        message-kept i (max (load 8 n (8 + 8 * i)) (stampIn x)) x n l h (omega (arith, stamp-lawful c i p x ok)) ok room F

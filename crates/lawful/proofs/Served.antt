@@ -1,0 +1,277 @@
+-- What a step changes is lawful, where what it looks at is. In order: lawful changes, a session, what a page shows and what a message wants, then
+-- every event and every step. Of states alone: no bytes. Assumes nothing.
+use Prim.Native.Nat.{ℕ, _^_, _≤_, _<_}
+use native.Mathlib.Nat.{mod-lt}
+use native.Mathlib.Omega.{arith}
+use mathlib.Core.Path.{_≡_, refl, ap, subst}
+use mathlib.Core.Logic.{⊎-elim}
+use mathlib.Core.Bool.{Bool, not, _||_}
+use mathlib.Core.List.{List, [], _∷_, _++_, List·Memᴰ·head}
+use mathlib.Core.Option.{Option, some, none}
+use lib.Dec.{T, leb, ltb, eqb}
+use lib.IntN.{ℤ}
+use lib.ListN.{length}
+use mir.Facts.{and-yes, or-yes, ltb-yes, leb-yes, eqb-yes, eqb-no}
+use Rattle.vector.specs.Vec.{Vec, zeros, larger, withEntry}
+use Rattle.vector.proofs.Tests.{cond-elim}
+use Rattle.vector.proofs.Vec.{all-below-at}
+use Rattle.protocol.specs.Record.{Setting, partOf, Rec, Msg, Update, Beat, newest, ofKey, fitsPage, raisedBy}
+use Rattle.protocol.specs.State.{Mark, Page, Session, State, noPage, closed, opened}
+use Rattle.protocol.specs.Event.{Event, OPEN, CLOSE, CLOCK, GET, PUT, BEGIN, READ, END, BEAT, DELIVER}
+use Rattle.protocol.specs.View.{View, view, viewAt, place, look}
+use Rattle.protocol.specs.Needs.{levelLawful, keysLawful, distinct, ranges, needs, beatSends, storeRoom, sendRoom, frontUpdates}
+use Rattle.protocol.specs.Change.{Change, SetSession, SetClock, Publish, Receive, apply, publish}
+use Rattle.protocol.specs.Serve.{written, unread, markRead, begun, readOn, taken, serve}
+use Rattle.protocol.specs.Step.{decide, step}
+use Rattle.protocol.specs.Past.{_∈_}
+use Rattle.protocol.proofs.Judge.{Met, met-both, judge-elim}
+use Rattle.protocol.proofs.Order.{NewestOf, newest-is}
+use Rattle.lawful.specs.Values.{keysOf}
+use Rattle.lawful.proofs.Values.{implies, LawfulVec, zeros-lawful, larger-lawful, with-entry-lawful, raised-lawful, LawfulRec, LawfulMsg, LawfulPage, marks-fit, LawfulSession, LawfulState}
+
+-- ---- lawful changes of a state
+
+-- an update wants a place of the store
+abbrev pub RoomIn : Msg → List Rec → Type 0
+RoomIn (Update r) l = length l < 32
+RoomIn (Beat t) l = Unit {0}
+
+pub record LawfulPublish (m p : ℕ) (x : Msg) (S : State) : Type 0 where
+  pub site : m < S .net .setting .sites
+  pub part : p < S .net .setting .parts
+  pub msg : LawfulMsg (S .net .setting) m p x
+  pub room : RoomIn x (S .net .store m p)
+  pub ways : (j : ℕ) → j < S .net .setting .sites → (j ≡ m → ⊥) → length (S .net .chan m j p) < 8
+
+pub record LawfulReceive (i m p : ℕ) (x : Msg) (S : State) : Type 0 where
+  pub source : i < S .net .setting .sites
+  pub site : m < S .net .setting .sites
+  pub other : i ≡ m → ⊥
+  pub part : p < S .net .setting .parts
+  pub msg : LawfulMsg (S .net .setting) i p x
+  pub room : RoomIn x (S .net .store m p)
+
+abbrev pub Lawful : Change → State → Type 0
+Lawful (SetSession s x) S = (s < 16) × LawfulSession (S .net .setting) x
+Lawful (SetClock m p t) S = (m < S .net .setting .sites) × (p < S .net .setting .parts) × (t < 2 ^ 48)
+Lawful (Publish m p x) S = LawfulPublish m p x S
+Lawful (Receive i m p x) S = LawfulReceive i m p x S
+
+-- each change is lawful in the state that those before it lead to
+abbrev pub LawfulAll : List Change → State → Type 0
+LawfulAll [] S = Unit {0}
+LawfulAll (c ∷ cs) S = Lawful c S × LawfulAll cs (apply c S)
+
+-- ---- a session
+
+module _ (c : Setting) where
+  no-page-lawful : LawfulPage c noPage
+  unfolding noPage
+  no-page-lawful = record { count = omega arith; keys = tt; used = λ t. absurd t; vec = zeros-lawful c; gathered = zeros-lawful c }
+
+  pub closed-lawful : LawfulSession c closed
+  unfolding closed
+  closed-lawful = record { site = omega arith; here = λ t. absurd t; vec = zeros-lawful c; page = no-page-lawful }
+
+  opened-lawful : (m : ℕ) (v : Vec) (g : Page) → c .sites ≤ 4 → m < c .sites → LawfulVec c v → LawfulPage c g → LawfulSession c (opened m v g)
+  unfolding opened
+  opened-lawful m v g few h ok page = record { site = omega arith; here = λ t. h; vec = ok; page = page }
+
+  -- what a search finds among lawful records raises a lawful vector to one
+  found-lawful : (p : ℕ) (l : List Rec) (fit : Rec → Bool) (v : Vec) → ((r : Rec) → r ∈ l → LawfulRec c p r) → LawfulVec c v → LawfulVec c (raisedBy v (newest c fit l))
+  unfolding raisedBy NewestOf
+  found-lawful p l fit v all ok = go (newest c fit l) (newest-is c fit l)
+    where
+      go : (o : Option Rec) → NewestOf c fit l o → LawfulVec c (raisedBy v o)
+      go none n = ok
+      go (some r) n = let R = all r (n .0) in raised-lawful c v (r .carried) (r .id .source) (r .id .stamp) ok (R .carried) (R .source) (R .stamp)
+
+-- ---- pages
+
+length-unread : (ks : List ℕ) → length (unread ks) ≡ length ks
+unfolding unread
+length-unread [] = refl
+length-unread (k ∷ ks) = omega (arith, length-unread ks)
+
+keys-unread : (ks : List ℕ) → keysOf (unread ks) ≡ ks
+unfolding unread keysOf
+keys-unread [] = refl
+keys-unread (k ∷ ks) = ap (λ l. k ∷ l) (keys-unread ks)
+
+length-markRead : (k : ℕ) (ms : List Mark) → length (markRead k ms) ≡ length ms
+unfolding markRead
+length-markRead k [] = refl
+length-markRead k (m ∷ ms) = omega (arith, length-markRead k ms)
+
+keys-markRead : (k : ℕ) (ms : List Mark) → keysOf (markRead k ms) ≡ keysOf ms
+unfolding markRead keysOf
+keys-markRead k [] = refl
+keys-markRead k (m ∷ ms) = ap (λ l. m .key ∷ l) (keys-markRead k ms)
+
+-- an open page of lawful marks
+module _ (c : Setting) (g : Page) (h : 0 < length (g .marks)) (few : length (g .marks) ≤ 8) (keys : T (keysLawful (keysOf (g .marks)))) (apart : T (distinct (keysOf (g .marks)))) where
+  used-lawful : LawfulVec c (g .vec) → LawfulVec c (g .gathered) → LawfulPage c g
+  used-lawful ok ok′ = record { count = few; keys = marks-fit (g .marks) keys; used = λ t. (h, keys, apart); vec = ok; gathered = ok′ }
+
+begun-lawful : (c : Setting) (v w : Vec) (ks : List ℕ) → 0 < length ks → length ks ≤ 8 → T (keysLawful ks) → T (distinct ks) → LawfulVec c v → LawfulVec c w → LawfulPage c (begun v w ks)
+unfolding begun
+begun-lawful c v w ks h few keys apart ok ok′ =
+    used-lawful c (begun v w ks) (omega (arith, length-unread ks)) (omega (arith, length-unread ks))
+    (rw (keys-unread ks) keys) (rw (keys-unread ks) apart) (larger-lawful c v w ok ok′) (zeros-lawful c)
+
+read-lawful : (c : Setting) (g : Page) (k : ℕ) (o : Option Rec) → T (g .isOpen) → LawfulPage c g → LawfulVec c (raisedBy (g .gathered) o) → LawfulPage c (readOn g k o)
+unfolding readOn
+read-lawful c g k o t page ok =
+    let u = page .used t in
+    used-lawful c (readOn g k o) (omega (arith, length-markRead k (g .marks))) (omega (arith, page .count, length-markRead k (g .marks)))
+    (rw (keys-markRead k (g .marks)) (u .1)) (rw (keys-markRead k (g .marks)) (u .2)) (page .vec) ok
+
+-- ---- room
+
+send-room : (v : View) (m p : ℕ) → T (sendRoom v m p) → (j : ℕ) → j < v .setting .sites → (j ≡ m → ⊥) → v .sent p j < 8
+unfolding sendRoom
+send-room v m p t j h d =
+    ⊎-elim (λ e. absurd (d (eqb-yes e))) (λ l. ltb-yes l)
+    (or-yes (eqb j m) (ltb (v .sent p j) 8) (all-below-at (v .setting .sites) (λ j. eqb j m || ltb (v .sent p j) 8) t j h))
+
+store-room : (l : List Rec) → T (storeRoom l) → length l < 32
+unfolding storeRoom
+store-room l t = ltb-yes t
+
+front-room : (x : Msg) (q : List Msg) (l : List Rec) → T (not (frontUpdates (x ∷ q)) || storeRoom l) → RoomIn x l
+unfolding frontUpdates
+front-room (Update r) q l t = store-room l t
+front-room (Beat s) q l t = tt
+
+-- ---- every event
+
+module _ (S : State) (ok : LawfulState S) where
+  abbrev c : Setting
+  c = S .net .setting
+
+  part-lt : (k : ℕ) → partOf c k < c .parts
+  unfolding partOf
+  part-lt k = mod-lt k (ok .part)
+
+  -- a session that is open
+  module _ (s : ℕ) (h : s < 16) (t : T (S .session s .isOpen)) where
+    abbrev x : Session
+    x = S .session s
+
+    here : x .site < c .sites
+    here = ok .session s h .here t
+
+    real : x .site < 4
+    real = omega (arith, here, ok .sites)
+
+    session-set : (v : Vec) (g : Page) → LawfulVec c v → LawfulPage c g → LawfulAll (SetSession s (opened (x .site) v g) ∷ []) S
+    session-set v g a b = ((h, opened-lawful c (x .site) v g (ok .sites) here a b), tt)
+
+    raised-set : (k : ℕ) (fit : Rec → Bool) (v : Vec) → LawfulVec c v → LawfulVec c (raisedBy v (newest c fit (S .net .store (x .site) (partOf c k))))
+    raised-set k fit v a =
+        let p = partOf c k in
+        found-lawful c p (S .net .store (x .site) p) fit v (ok .store (x .site) p real (omega (arith, part-lt k, ok .parts))) a
+
+    put-set : (k q : ℕ) (l : ℤ) → k < 64 → q < 3 → T (levelLawful l) → length (S .net .store (x .site) (partOf c k)) < 32
+        → ((j : ℕ) → j < c .sites → (j ≡ x .site → ⊥) → length (S .net .chan (x .site) j (partOf c k)) < 8)
+        → LawfulAll (Publish (x .site) (partOf c k) (Update (written x k q l (S .net .clock (x .site) (partOf c k)))) ∷ SetSession s (opened (x .site) (withEntry (x .vec) (x .site) (S .net .clock (x .site) (partOf c k))) (x .page)) ∷ []) S
+    unfolding written apply publish
+    put-set k q l a b d room ways =
+        let p = partOf c k in
+        let part = part-lt k in
+        let clock = ok .clock (x .site) p real (omega (arith, ok .parts)) in
+        let X = ok .session s h in (
+          record {
+            site = here;
+            part = part;
+            msg = (refl, record { key = a; part = refl; source = here; quality = b; level = d; stamp = clock; carried = X .vec });
+            room = room;
+            ways = ways;
+          },
+          ((h, opened-lawful c (x .site) (withEntry (x .vec) (x .site) (S .net .clock (x .site) p)) (x .page) (ok .sites) here (with-entry-lawful c (x .vec) (x .site) (S .net .clock (x .site) p) (X .vec) here clock) (X .page)), tt),
+        )
+
+  take-set : (i m p : ℕ) (q : List Msg) → i < c .sites → m < c .sites → (i ≡ m → ⊥) → p < c .parts → ((y : Msg) → y ∈ q → LawfulMsg c i p y)
+      → T (not (frontUpdates q) || storeRoom (S .net .store m p)) → LawfulAll (taken i m p q) S
+  unfolding taken
+  take-set i m p [] a b d e all room = tt
+  take-set i m p (y ∷ q) a b d e all room =
+      (record { source = a; site = b; other = d; part = e; msg = all y (List·Memᴰ·head refl); room = front-room y q (S .net .store m p) room }, tt)
+
+  serve-lawful : (e : Event) → Met (ranges c e) → Met (needs (view S e) e) → LawfulAll (serve (view S e) e .changes) S
+  unfolding serve needs ranges view viewAt place look
+  serve-lawful (OPEN s m) r t = ((ltb-yes (r .1 .0), opened-lawful c m zeros noPage (ok .sites) (ltb-yes (r .0)) (zeros-lawful c) (no-page-lawful c)), tt)
+  serve-lawful (CLOSE s) r t = ((ltb-yes (r .0), closed-lawful c), tt)
+  serve-lawful (CLOCK m p u) r t = ((ltb-yes (r .0), ltb-yes (r .1 .0), ltb-yes (r .1 .1 .0)), tt)
+  serve-lawful (GET s k) r t =
+      let h : s < 16 = ltb-yes (r .0) in
+      let X = ok .session s h in
+      let v = raisedBy (S .session s .vec) (newest c (ofKey k) (S .net .store (S .session s .site) (partOf c k))) in
+      session-set s h (t .0) v (S .session s .page) (raised-set s h (t .0) k (ofKey k) (S .session s .vec) (X .vec)) (X .page)
+  serve-lawful (PUT s k q l) r t =
+      let m = S .session s .site in
+      put-set s (ltb-yes (r .0)) (t .0) k q l (ltb-yes (r .1 .0)) (ltb-yes (r .1 .1 .0)) (r .1 .1 .1 .0) (store-room (S .net .store m (partOf c k)) (t .1 .1 .0))
+      (send-room (view S (PUT s k q l)) m (partOf c k) (t .1 .1 .1 .0))
+  serve-lawful (BEGIN s p ks) r t =
+      let h : s < 16 = ltb-yes (r .1 .0) in
+      let X = ok .session s h in
+      let v = S .net .heard (S .session s .site) p in
+      let part : p < c .parts = ltb-yes (r .0) in
+      let count = and-yes (ltb 0 (length ks)) (leb (length ks) 8) (r .1 .1 .0) in
+      session-set s h (t .0) (S .session s .vec) (begun v (S .session s .vec) ks) (X .vec)
+      (begun-lawful c v (S .session s .vec) ks (ltb-yes (count .0)) (leb-yes (count .1)) (r .1 .1 .1 .0) (t .1 .1 .0)
+      (ok .heard (S .session s .site) p (real s h (t .0)) (omega (arith, ok .parts))) (X .vec))
+  serve-lawful (READ s k) r t =
+      let h : s < 16 = ltb-yes (r .0) in
+      let X = ok .session s h in
+      let g = S .session s .page in
+      let fit = fitsPage k (g .vec) in
+      let o = newest c fit (S .net .store (S .session s .site) (partOf c k)) in
+      session-set s h (t .0) (S .session s .vec) (readOn g k o) (X .vec)
+      (read-lawful c g k o (t .1 .0) (X .page) (raised-set s h (t .0) k fit (g .gathered) (X .page .gathered)))
+  serve-lawful (END s) r t =
+      let h : s < 16 = ltb-yes (r .0) in
+      let X = ok .session s h in
+      session-set s h (t .0) (larger (S .session s .vec) (S .session s .page .gathered)) noPage (larger-lawful c (S .session s .vec) (S .session s .page .gathered) (X .vec) (X .page .gathered)) (no-page-lawful c)
+  serve-lawful (BEAT m p) r t =
+      let site : m < c .sites = ltb-yes (r .0) in
+      let part : p < c .parts = ltb-yes (r .1 .0) in
+      let sends = beatSends (S .net .heard m p m) (S .net .clock m p) in
+      cond-elim (λ cs. LawfulAll cs S) sends
+      (λ u. (
+        record {
+          site = site;
+          part = part;
+          msg = ok .clock m p (omega (arith, ok .sites)) (omega (arith, ok .parts));
+          room = tt;
+          ways = send-room (view S (BEAT m p)) m p (implies sends (sendRoom (view S (BEAT m p)) m p) (t .0) u);
+        },
+        tt,
+      )) (λ u. tt)
+  serve-lawful (DELIVER i m p) r t =
+      let site : m < c .sites = ltb-yes (r .0) in
+      let part : p < c .parts = ltb-yes (r .1 .0) in
+      let from = and-yes (ltb i (c .sites)) (not (eqb i m)) (r .1 .1 .0) in
+      let source : i < c .sites = ltb-yes (from .0) in
+      take-set i m p (S .net .chan i m p) source site (eqb-no (from .1)) part (ok .chan i m p (omega (arith, ok .sites)) (omega (arith, ok .parts))) (t .1 .0)
+
+view-setting : (S : State) (e : Event) → view S e .setting ≡ S .net .setting
+unfolding view viewAt place look
+view-setting S (OPEN s m) = refl
+view-setting S (CLOSE s) = refl
+view-setting S (CLOCK m p t) = refl
+view-setting S (GET s k) = refl
+view-setting S (PUT s k q l) = refl
+view-setting S (BEGIN s p ks) = refl
+view-setting S (READ s k) = refl
+view-setting S (END s) = refl
+view-setting S (BEAT m p) = refl
+view-setting S (DELIVER i m p) = refl
+
+pub step-lawful : (S : State) → LawfulState S → (e : Event) → LawfulAll (step S e .changes) S
+unfolding step decide
+step-lawful S ok e =
+    judge-elim (λ o. LawfulAll (o .changes) S) (ranges (view S e .setting) e ++ needs (view S e) e) (serve (view S e) e) (λ w. tt)
+    (λ t.
+    let u = met-both (ranges (view S e .setting) e) (needs (view S e) e) t in
+    serve-lawful S ok e (subst (λ c. Met (ranges c e)) (view-setting S e) (u .0)) (u .1))
