@@ -1,4 +1,8 @@
--- What is known of a table's bytes where a decision reads them, and what each event is answered in those words.
-pub mod Known
+-- The search by places is the protocol's search; what is asked of a well-formed table, and known of a session; a node's bytes in the table; vectors by their entries.
+pub mod Places
+pub mod Formed
+pub mod Told
+pub mod Whole
+pub mod Raised
 pub mod Room
 pub mod Times

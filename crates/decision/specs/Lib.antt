@@ -1,3 +1,4 @@
--- What a decision says of the protocol, and the search as a loop finds it.
+-- The search as a loop finds it and what it gives; what a decision says of the protocol.
 pub mod Search
+pub mod Found
 pub mod Decided

@@ -1,9 +1,14 @@
-// Decisions: what an event is answered, and what it then changes. They read the table and write nothing.
+// Decisions: what an event is answered, and what it then changes. They read the table and write nothing. Here are the values; the files are, from
+// what is read to what is decided: lookup, search, answers, marks, and the decisions themselves. Assumes nothing.
 use protocol::Answer;
 use table::Message;
+use table::Reading;
 use table::Session;
 use vector::Vector;
 
+pub mod answers;
+pub mod lookup;
+pub mod search;
 pub mod writes;
 
 // What is then carried out. A delivery holds its message, which is numbers; an update's vector and a session stand beside the effect.
@@ -41,4 +46,10 @@ pub struct Decided {
     pub effect: Effect,
     pub carried: Vector,
     pub session: Session,
+}
+
+// What a search gives: the reading counts only if it was found.
+pub struct Found {
+    pub found: bool,
+    pub reading: Reading,
 }

@@ -1,0 +1,14 @@
+-- `decision::answers::kept` meets its contract. Assumes nothing.
+use mathlib.Core.Path.{refl}
+use Rattle.decision.specs.Decided.{changesOf, outcomeOf}
+use Rattle.decision.proofs.answers.kept.Statement.{statement}
+use Rattle.decision.proofs.answers.kept.Tie as tie
+use Rattle.decision.proofs.answers.kept.Reads as reads
+use Rattle.decision.proofs.answers.kept.Lts as lts
+
+returns : tie.Need-returns
+unfolding outcomeOf changesOf
+returns c = refl
+
+pub kept-spec : {M : Type 1} → statement M
+kept-spec = tie.close (tie.spec returns)

@@ -1,0 +1,21 @@
+-- `decision::answers::raised` meets its contract: no entry beyond the width. Assumes nothing.
+use mathlib.Core.Path.{ap, _∙_}
+use native.Mathlib.Omega.{arith}
+use borrow.Author.Needs.{needs}
+use Rattle.vector.specs.Vec.{width}
+use Rattle.vector.specs.Entries.{entry}
+use Rattle.decision.proofs.Raised.{entry-raised}
+use Rattle.decision.proofs.answers.raised.Statement.{statement}
+use Rattle.decision.proofs.answers.raised.Tie as tie
+
+raised-requires : tie.Need-raised-requires
+raised-requires c κs = search needs
+
+returns : tie.Need-returns
+unfolding width
+returns c =
+    let a = c .before .args in
+    ap entry (c .raised .ensures) ∙ entry-raised (a .v .e) (a .carried .e) (search needs) (search needs) (a .source) (a .stamp) (omega arith)
+
+pub raised-spec : {M : Type 1} → statement M
+raised-spec = tie.close (tie.spec raised-requires returns)

@@ -1,0 +1,34 @@
+-- `decision::lookup::partition` meets its contract: a well-formed table has 1 to 4 partitions. Assumes nothing.
+use mathlib.Core.Path.{refl}
+use native.Mathlib.Nat.{mod-lt}
+use native.Mathlib.Omega.{arith}
+use Rattle.protocol.specs.Record.{partOf}
+use Rattle.table.specs.Decode.{settingIn}
+use Rattle.decision.proofs.Formed.{parts-some, parts-at-most}
+use borrow.Author.Needs.{needs}
+use Rattle.decision.proofs.lookup.partition.Statement.{statement}
+use Rattle.decision.proofs.lookup.partition.Tie as tie
+use Rattle.decision.proofs.lookup.partition.Reads as reads
+use Rattle.decision.proofs.lookup.partition.Lts as lts
+use Rattle.codec.proofs.load_u8.Reads as load-u8-reads
+
+load-u8-requires : tie.Need-load-u8-requires
+load-u8-requires c κs = search needs
+
+rem-result : tie.Need-rem-result
+unfolding settingIn
+rem-result c =
+    let s = c .before .before in
+    omega (arith, c .load-u8 .ensures, parts-some (s .args .t .now) (s .pre .1))
+
+returns : tie.Need-returns
+unfolding partOf settingIn
+returns c =
+    let s = c .before .before in
+    let some = parts-some (s .args .t .now) (s .pre .1) in
+    let most = parts-at-most (s .args .t .now) (s .pre .1) in
+    let less = mod-lt (s .args .k) some in
+    rw (c .load-u8 .ensures) (refl, omega arith)
+
+pub partition-spec : {M : Type 1} → statement M
+partition-spec = tie.close (tie.spec load-u8-requires rem-result returns)

@@ -1,0 +1,69 @@
+// The search for the newest record of a node that fits a read. In order: whether a record fits, which of two is newer, one more record beside the
+// best so far, and all. A place is counted from 1, and 0 is none. Nothing of a record is read but what these tests ask. Assumes nothing.
+ghost use mathlib.Core.Path.{_≡_};
+ghost use Prim.Native.Nat.{ℕ, _+_, _≤_, _<_};
+ghost use lib.ListN.{length};
+ghost use Rattle.vector.specs.Entries.{entry};
+ghost use Rattle.protocol.specs.Record.{Setting, newer};
+ghost use Rattle.table.specs.Letter.{recordAt};
+ghost use Rattle.table.specs.Node.{slotAt};
+ghost use Rattle.decision.specs.Search.{fitsRead, betterPlace, newestPlace};
+use vector::Vector;
+
+// Whether the record at `at` is of the key and, on a page, carries no more than the page's vector. The key is compared first: it is one byte.
+fn is_candidate(n: &[u8], at: usize, key: u8, paged: bool, page: Vector) -> bool
+    requires { ⌜ at + 48 ≤ length (now n) ⌝ }
+    ensures { λ r. ⌜ r ≡ fitsRead paged key (entry (page .e)) (recordAt (now (n .entry)) at) ⌝ }
+{
+    if codec::load_u8(n, at) != key {
+        return false;
+    }
+    if paged {
+        return vector::load_vector(n, at + 16).at_most(page);
+    }
+    true
+}
+
+// Whether the record at `at` is newer than the one at `other`: "the greater stamp; at equal stamps the greater site number".
+fn is_newer(n: &[u8], at: usize, other: usize) -> bool
+    requires { ⌜ (at + 48 ≤ length (now n)) × (other + 48 ≤ length (now n)) ⌝ }
+    ensures { λ r. ⌜ ((c : Setting) → r ≡ newer c (recordAt (now (n .entry)) at .id) (recordAt (now (n .entry)) other .id)) ⌝ }
+{
+    let stamp = codec::load_u64(n, at + 8);
+    let than = codec::load_u64(n, other + 8);
+    let source = codec::load_u8(n, at + 1);
+    let than_source = codec::load_u8(n, other + 1);
+    (than < stamp) | ((than == stamp) & (than_source < source))
+}
+
+// The record in slot k beside the best of those before it.
+fn better(n: &[u8], k: usize, best: usize, key: u8, paged: bool, page: Vector) -> usize
+    requires { ⌜ (length (now n) ≡ 1856) × (k < 32) × (best ≤ k) ⌝ }
+    ensures { λ r. ⌜ ((c : Setting) → r ≡ betterPlace c (fitsRead paged key (entry (page .e))) (λ i. recordAt (now (n .entry)) (slotAt i)) k best) ⌝ }
+{
+    if !is_candidate(n, 64 + 56 * k, key, paged, page) {
+        return best;
+    }
+    if best == 0 {
+        return k + 1;
+    }
+    if is_newer(n, 64 + 56 * k, 64 + 56 * (best - 1)) {
+        k + 1
+    } else {
+        best
+    }
+}
+
+// The place of the newest of the first `held` records of a node that fits.
+pub fn newest_place(n: &[u8], held: usize, key: u8, paged: bool, page: Vector) -> usize
+    requires { ⌜ (length (now n) ≡ 1856) × (held ≤ 32) ⌝ }
+    ensures { λ r. ⌜ ((c : Setting) → r ≡ newestPlace c (fitsRead paged key (entry (page .e))) (λ k. recordAt (now (n .entry)) (slotAt k)) held) ⌝ }
+{
+    let mut best = 0;
+    let mut k = 0;
+    while k < held {
+        best = better(n, k, best, key, paged, page);
+        k += 1;
+    }
+    best
+}
