@@ -8,7 +8,7 @@ use Rattle.codec.specs.Level.{bitsOf}
 use Rattle.codec.specs.Part.{partOf}
 use Rattle.protocol.specs.declared.Answer.{Answer}
 use Rattle.protocol.specs.Event.{numberOf, sourceOf, qualityOf, levelOf, stampOf}
-use Rattle.archive.specs.Call.{Called, stepCall}
+use Rattle.archive.specs.Call.{stepCall}
 
 -- piece i of the event bytes
 unfoldable pub pieceOf : List ℕ → ℕ → List ℕ

@@ -1,7 +1,7 @@
--- Tests that are joined. In order: two tests that pass in the same cases are one; a choice as two tests; tests of every number below n, joined,
--- taken from the front, and walked by a loop that keeps whether all passed. Assumes nothing.
+-- Tests that are joined. In order: when two tests are one, a choice as two tests, tests joined in another order; a test of every number below n,
+-- joined and from the front; a claim of every number below n, one after the other. Assumes nothing.
 use mathlib.Core.Path.{_≡_, refl, sym, ap, _∙_}
-use mathlib.Core.Bool.{Bool, true, false, cond, not, _&&_, _||_, and-assoc, and-comm}
+use mathlib.Core.Bool.{Bool, true, false, cond, not, _&&_, _||_, and-true, and-assoc, and-comm}
 use Prim.Native.Nat.{ℕ, zero, suc, _<_}
 use native.Mathlib.Omega.{arith}
 use lib.Dec.{T}
@@ -9,6 +9,7 @@ use Rattle.vector.specs.Vec.{allBelow}
 
 -- ---- single tests
 
+-- they pass in the same cases
 pub same-tests : (a b : Bool) → (T a → T b) → (T b → T a) → a ≡ b
 same-tests true true f g = refl
 same-tests true false f g = absurd (f tt)
@@ -31,6 +32,7 @@ pub choice-yes {ℓ} : {R : Type ℓ} (u a z : Bool) → T (cond u a z) → (T a
 choice-yes true a z t f g = f t
 choice-yes false a z t f g = g t
 
+-- a choice that passes where its test does
 pub choice-first : (u a z : Bool) → T u → T (cond u a z) → T a
 choice-first true a z h t = t
 choice-first false a z h t = absurd h
@@ -53,14 +55,10 @@ allBelow-and (suc n) f g = rw (allBelow-and n f g) (and-swap (allBelow n f) (all
 
 pub allBelow-front : (n : ℕ) (f : ℕ → Bool) → allBelow (suc n) f ≡ (f 0 && allBelow n (λ i. f (suc i)))
 unfolding allBelow
-allBelow-front zero f = go (f 0)
-  where
-    go : (b : Bool) → b ≡ (b && true)
-    go true = refl
-    go false = refl
+allBelow-front zero f = sym (and-true (f 0))
 allBelow-front (suc n) f = rw (allBelow-front n f) (and-assoc (f 0) (allBelow n (λ i. f (suc i))) (f (suc n)))
 
--- ---- a claim of every number below n, one number after the other
+-- ---- a claim of every number below n, one number after the other: first _ 1 (claim of 0) (first _ 0 (claim of 1) (none _))
 
 pub none : (P : ℕ → Type 0) (n : ℕ) → n < 0 → P n
 none P n h = absurd (omega arith)

@@ -1,5 +1,5 @@
--- The values that the code loads say the event of the bytes. In order: a lawful count, the keys below it, the event, and which event it is for each
--- code, as a dispatcher that matches on the code asks. Assumes nothing.
+-- The values that the code loads say the event of the bytes, where these are lawful. In order: a field of a lawful event, the event, and what a
+-- dispatcher knows that matches on the code. The key rules are `event-is` and `used-in-range`. Assumes nothing.
 use mathlib.Core.Path.{_≡_, sym, ap, _∙_}
 use mathlib.Core.Bool.{Bool, true, false, _&&_}
 use mathlib.Core.List.{List}
@@ -19,7 +19,7 @@ use Rattle.event.specs.Event.{codeLawful, keysOf, eventOf, met}
 use Rattle.event.specs.Values.{fieldsIn, keysFrom, eventFor, eventFrom}
 use Rattle.event.specs.Ranges.{inRange, fieldLawful, fieldsLawful}
 use Rattle.event.proofs.Tests.{choice-yes, choice-first}
-use Rattle.event.proofs.Tabulate.{getD-tabulate, tabulate-ext}
+use Rattle.table.proofs.Tabulate.{tab-at, tab-ext}
 use Rattle.event.proofs.Ranges.{fields-lawful}
 
 module _ (c : Setting) (e : List ℕ) where
@@ -36,11 +36,6 @@ module _ (c : Setting) (e : List ℕ) where
       let t : T (fieldsLawful c e) = rw (fields-lawful c e (l .0), l .1) tt in
       all-below-at 10 each (and-yes (allBelow 10 each) (restZero e && zeroAt e 28 4) t .0) f h
 
-  -- a field that is used is in its range
-  pub used-in-range : Lawful → (f : ℕ) → f < 10 → T (uses (load 1 e 0 - 1) f) → T (getD (inRange c (fieldsIn e)) f false)
-  unfolding fieldLawful
-  used-in-range l f h u = choice-first (uses (load 1 e 0 - 1) f) _ _ u (each-lawful l f h)
-
   -- the count is at most 8, used or not
   count-low : Lawful → load 1 e 7 ≤ 8
   unfolding fieldLawful inRange fieldsIn zeroAt load
@@ -53,13 +48,25 @@ module _ (c : Setting) (e : List ℕ) where
 
 keysFrom-fieldsIn : (e : List ℕ) → load 1 e 7 ≤ 8 → keysFrom (fieldsIn e) ≡ keysOf e
 unfolding keysFrom fieldsIn keysOf
-keysFrom-fieldsIn e h = tabulate-ext (load 1 e 7) _ _ (λ i b. getD-tabulate 8 (λ i. load 1 e (20 + i)) 0 i (omega arith))
+keysFrom-fieldsIn e h = tab-ext (load 1 e 7) _ _ (λ i b. tab-at 8 (λ i. load 1 e (20 + i)) 0 i (omega arith))
 
 pub eventFrom-fieldsIn : (c : Setting) (e : List ℕ) → Lawful c e → eventFrom (fieldsIn e) ≡ eventOf e
 unfolding eventFrom eventOf fieldsIn
 eventFrom-fieldsIn c e l = rw (keysFrom-fieldsIn e (count-low c e l))
 
--- for a numeral n `eventFor x n` computes: x .code ≡ 1 gives eventOf e ≡ OPEN (x .session) (x .site)
-pub event-is : (c : Setting) (e : List ℕ) (x : Fields) → x ≡ fieldsIn e → Lawful c e → (n : ℕ) → x .code ≡ n → eventOf e ≡ eventFor x n
-unfolding eventFrom
-event-is c e x q l n h = sym (rw q (eventFrom-fieldsIn c e l)) ∙ ap (eventFor x) h
+-- ---- what a dispatcher knows where the code that it has loaded is n
+
+module _ (c : Setting) (e : List ℕ) (x : Fields) (q : x ≡ fieldsIn e) (l : Lawful c e) (n : ℕ) (h : x .code ≡ n) where
+  -- at a numeral it computes: where n is 1, eventOf e ≡ OPEN (x .session) (x .site)
+  pub event-is : eventOf e ≡ eventFor x n
+  unfolding eventFrom
+  event-is = sym (rw q (eventFrom-fieldsIn c e l)) ∙ ap (eventFor x) h
+
+  code-is : load 1 e 0 - 1 ≡ n - 1
+  unfolding fieldsIn
+  code-is = rw (← h, q)
+
+  -- a used field is in its range; at numerals it computes: where n is 1 and f is `site`, T (ltb (x .site) (c .sites))
+  pub used-in-range : (f : ℕ) → f < 10 → T (uses (n - 1) f) → T (getD (inRange c x) f false)
+  unfolding fieldLawful
+  used-in-range f b u = rw q (choice-first (uses (n - 1) f) _ _ u (rw code-is at (each-lawful c e l f b)))

@@ -1,7 +1,7 @@
 -- Refusal 11 as the code tests it, field by field: each field's range, and a field that is in its range where it is used and zero where it is
 -- not. That this is `unusedZero` with the protocol's `ranges` is proved in proofs/Ranges. Assumes nothing.
 use Prim.Native.Nat.{ℕ, _-_, _^_}
-use mathlib.Core.Bool.{Bool, true, false, cond, not, _&&_, _||_}
+use mathlib.Core.Bool.{Bool, false, cond, not, _&&_, _||_}
 use mathlib.Core.List.{List, [], _∷_}
 use lib.Dec.{leb, ltb, eqb}
 use lib.ListN.{getD}
@@ -32,8 +32,10 @@ inRange c x =
     ∷ keysBelow (x .keys) (x .count)
     ∷ []
 
+-- the field f of the code row + 1, where `within` has each field's test
 unfoldable pub fieldLawful : List ℕ → List Bool → (row f : ℕ) → Bool
 fieldLawful e within row f = cond (uses row f) (getD within f false) (zeroAt e (startOf f) (sizeOf f))
 
+-- all ten fields, page keys beyond the count, and bytes 28 to 31
 unfoldable pub fieldsLawful : Setting → List ℕ → Bool
 fieldsLawful c e = allBelow 10 (fieldLawful e (inRange c (fieldsIn e)) (load 1 e 0 - 1)) && (restZero e && zeroAt e 28 4)

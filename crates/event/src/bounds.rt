@@ -1,7 +1,6 @@
 // The range of each field, whether its code uses it or not: refusal 11's numbers. In order: a level, page keys, all ten fields. It touches nothing.
 ghost use mathlib.Core.Path.{_≡_};
 ghost use Rattle.protocol.specs.Needs.{levelLawful};
-ghost use Rattle.protocol.specs.Record.{Setting};
 ghost use Rattle.event.specs.Ranges.{keysBelow, inRange};
 use crate::Fields;
 

@@ -5,22 +5,27 @@ ghost use Prim.Native.Nat.{_+_, _<_, _≤_};
 ghost use lib.ListN.{length};
 ghost use Rattle.event.specs.Fields.{uses, startOf, sizeOf, zeroAt, restZero};
 
+const YES: bool = true;
+
+const NO: bool = false;
+
 // A row for each code from 1, a flag for each field: site, partition, session, key, quality, from, count, time, level, page keys.
 const USES: [[bool; 10]; 10] = [
-    [true, false, true, false, false, false, false, false, false, false],
-    [false, false, true, false, false, false, false, false, false, false],
-    [true, true, false, false, false, false, false, true, false, false],
-    [false, false, true, true, false, false, false, false, false, false],
-    [false, false, true, true, true, false, false, false, true, false],
-    [false, true, true, false, false, false, true, false, false, true],
-    [false, false, true, true, false, false, false, false, false, false],
-    [false, false, true, false, false, false, false, false, false, false],
-    [true, true, false, false, false, false, false, false, false, false],
-    [true, true, false, false, false, true, false, false, false, false],
+    [YES, NO, YES, NO, NO, NO, NO, NO, NO, NO], // OPEN
+    [NO, NO, YES, NO, NO, NO, NO, NO, NO, NO], // CLOSE
+    [YES, YES, NO, NO, NO, NO, NO, YES, NO, NO], // CLOCK
+    [NO, NO, YES, YES, NO, NO, NO, NO, NO, NO], // GET
+    [NO, NO, YES, YES, YES, NO, NO, NO, YES, NO], // PUT
+    [NO, YES, YES, NO, NO, NO, YES, NO, NO, YES], // BEGIN
+    [NO, NO, YES, YES, NO, NO, NO, NO, NO, NO], // READ
+    [NO, NO, YES, NO, NO, NO, NO, NO, NO, NO], // END
+    [YES, YES, NO, NO, NO, NO, NO, NO, NO, NO], // BEAT
+    [YES, YES, NO, NO, NO, YES, NO, NO, NO, NO], // DELIVER
 ];
 
 // Where each field starts, and how many bytes it has.
 const START: [usize; 10] = [1, 2, 3, 4, 5, 6, 7, 8, 16, 20];
+
 const SIZE: [usize; 10] = [1, 1, 1, 1, 1, 1, 1, 8, 4, 8];
 
 // The code row + 1 uses the field f.

@@ -2,7 +2,7 @@
 // field is in flags, the range of each field in bounds. It reads the event alone.
 ghost use mathlib.Core.Path.{_≡_};
 ghost use mathlib.Core.Bool.{true, _&&_};
-ghost use Prim.Native.Nat.{_+_, _<_, _≤_, _-_};
+ghost use Prim.Native.Nat.{_+_, _<_, _-_};
 ghost use lib.ListN.{length};
 ghost use Rattle.codec.specs.Le.{load};
 ghost use Rattle.vector.specs.Vec.{allBelow};
@@ -11,10 +11,10 @@ ghost use Rattle.table.specs.Tabulate.{tabulate};
 ghost use Rattle.event.specs.Fields.{unusedZero};
 ghost use Rattle.event.specs.Event.{codeLawful, eventOf, met};
 ghost use Rattle.event.specs.Values.{fieldsIn};
-ghost use Rattle.event.specs.Ranges.{fieldLawful, inRange};
+ghost use Rattle.event.specs.Ranges.{fieldLawful};
 
-pub mod flags;
-pub mod bounds;
+mod bounds;
+mod flags;
 
 // The numbers of an event's fields, of whatever code.
 pub struct Fields {

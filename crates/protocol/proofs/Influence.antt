@@ -40,7 +40,7 @@ influenced S R e a = ap (λ v. decide v e) (view-alike S R (place e) a)
 
 -- ---- a refusal has no changes
 
-Unserved : Answer → Type 0
+unfoldable pub Unserved : Answer → Type 0
 Unserved Done = ⊥
 Unserved (Stamped m t) = ⊥
 Unserved (Value m q l t) = ⊥
@@ -52,7 +52,7 @@ unfolding Unserved shown
 shown-is-served none u = u
 shown-is-served (some r) u = u
 
-serve-is-served : (v : View) (e : Event) → Unserved (serve v e .says) → ⊥
+pub serve-is-served : (v : View) (e : Event) → Unserved (serve v e .says) → ⊥
 unfolding Unserved serve
 serve-is-served v (OPEN s m) u = u
 serve-is-served v (CLOSE s) u = u

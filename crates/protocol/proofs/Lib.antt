@@ -10,6 +10,7 @@ pub mod Steps
 pub mod Causal
 pub mod Conserve
 pub mod Influence
+pub mod Numbers
 pub mod Runs
 pub mod Marked
 pub mod Traps

@@ -203,7 +203,7 @@ serve-inv S h J (BEAT m p) r t = cond-elim (λ cs. Inv (applyAll cs S) h) (beatS
     (λ u. beat-inv S h J m p (S .net .clock m p) (ltb-yes (r .0)) (unfold beatSends in ltb-yes u)) (λ u. J)
 serve-inv S h J (DELIVER i m p) r t = deliver-inv S h J i m p (S .net .chan i m p) refl
 
-view-setting : (S : State) (e : Event) → view S e .setting ≡ S .net .setting
+pub view-setting : (S : State) (e : Event) → view S e .setting ≡ S .net .setting
 unfolding view viewAt place look
 view-setting S (OPEN s m) = refl
 view-setting S (CLOSE s) = refl

@@ -1,14 +1,12 @@
 -- Every change of a thing's bytes keeps their number. Assumes nothing.
 use Prim.Native.Nat.{ℕ, suc, _+_, _*_, max}
 use mathlib.Core.Path.{_≡_, refl, _∙_}
-use mathlib.Core.Bool.{cond}
 use mathlib.Core.List.{List, [], _∷_}
 use lib.IntN.{ℤ, pos}
 use lib.ListN.{length}
 use Rattle.codec.specs.Le.{load, put}
 use Rattle.codec.proofs.Le.{length-put}
 use Rattle.vector.specs.Vec.{Vec, zeros}
-use Rattle.vector.specs.Entries.{putVec}
 use Rattle.vector.proofs.Entries.{length-putVec}
 use Rattle.protocol.specs.Record.{Rec, Msg, Update, Beat, stampIn}
 use Rattle.protocol.specs.State.{Mark, Session}

@@ -1,6 +1,6 @@
 -- What is lent as `&mut whole[off..off + k]` is the thing whose bytes stand there: a node, a channel, a site's part, a session. Assumes nothing.
 use Prim.Native.Nat.{ℕ, _+_, _-_, _<_}
-use mathlib.Core.Path.{_≡_, sym}
+use mathlib.Core.Path.{_≡_}
 use mathlib.Core.List.{List}
 use native.Mathlib.Omega.{arith}
 use borrow.Author.Tests.{lt-ltb}

@@ -1,11 +1,11 @@
--- The laws of a function's first n values. In order: their number, functions that agree, one more behind, and one less in front. The last two are
+-- The laws of a function's first n values. In order: their number, each of them, functions that agree, one more behind, and one less in front. The last two are
 -- all that a store's slots and a channel's ring need. Assumes nothing.
 use Prim.Native.Nat.{ℕ, zero, suc, _+_, _-_, _<_}
 use native.Mathlib.Numerals.{add-one}
 use native.Mathlib.Omega.{arith}
 use mathlib.Core.Path.{_≡_, refl, ap, ap₂, _∙_}
 use mathlib.Core.List.{List, [], _∷_, _++_, tail}
-use lib.ListN.{length}
+use lib.ListN.{length, getD}
 use Rattle.table.specs.Tabulate.{tabulate}
 
 module _ {ℓ} {A : Type ℓ} where
@@ -13,6 +13,12 @@ module _ {ℓ} {A : Type ℓ} where
   unfolding tabulate
   tab-length zero f = refl
   tab-length (suc n) f = ap suc (tab-length n (λ i. f (suc i)))
+
+  pub tab-at : (n : ℕ) (f : ℕ → A) (d : A) (i : ℕ) → i < n → getD (tabulate n f) i d ≡ f i
+  unfolding tabulate
+  tab-at zero f d i h = absurd (omega arith)
+  tab-at (suc n) f d zero h = refl
+  tab-at (suc n) f d (suc i) h = tab-at n (λ i. f (suc i)) d i (omega arith)
 
   pub tab-ext : (n : ℕ) (f g : ℕ → A) → ((i : ℕ) → i < n → f i ≡ g i) → tabulate n f ≡ tabulate n g
   unfolding tabulate

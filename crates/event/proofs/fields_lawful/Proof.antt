@@ -1,5 +1,4 @@
 -- `event::fields_lawful` meets its contract: it tests field by field, which is what the protocol asks. Assumes nothing.
-use mathlib.Core.Path.{_∙_}
 use Rattle.event.specs.Values.{fieldsIn}
 use Rattle.event.specs.Ranges.{fieldsLawful}
 use Rattle.event.proofs.Ranges.{code-row, fields-lawful}

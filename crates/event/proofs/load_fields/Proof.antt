@@ -43,16 +43,11 @@ returns : tie.Need-returns
 unfolding fieldsIn timeOf levelIn
 returns c =
     let level = c .before in
-    let time = level .before in
-    let count = time .before in
-    let from = count .before in
-    let quality = from .before in
-    let key = quality .before in
-    let session = key .before in
-    let partition = session .before in
-    let site = partition .before in
+    let count = level .before .before in
+    let key = count .before .before .before in
+    let site = key .before .before .before in
     rw
-    (toZ-ofZ (record { sfits = level .load-level .ok }), site .before .load-u8 .ensures, site .load-u82 .ensures, partition .load-u83 .ensures, session .load-u84 .ensures, key .load-u85 .ensures, quality .load-u86 .ensures, from .load-u87 .ensures, count .load-u88 .ensures, time .load-u64 .ensures, level .load-level .ensures, c .load-keys .ensures)
+    (toZ-ofZ (record { sfits = level .load-level .ok }), site .before .load-u8 .ensures, site .load-u82 .ensures, key .before .before .load-u83 .ensures, key .before .load-u84 .ensures, key .load-u85 .ensures, count .before .before .load-u86 .ensures, count .before .load-u87 .ensures, count .load-u88 .ensures, level .before .load-u64 .ensures, level .load-level .ensures, c .load-keys .ensures)
 
 pub load-fields-spec : {M : Type 1} → statement M
 load-fields-spec =

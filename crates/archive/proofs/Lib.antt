@@ -1,0 +1,2 @@
+-- The theorems carried to the bytes.
+pub mod Story

@@ -1,0 +1,219 @@
+-- The theorems carried to the bytes. In order: what a table that setup and steps have led to is (`Reached`), one call of `step` on it, any list of event
+-- byte strings as a list of the protocol's events, and the promises. Assumes nothing.
+use Prim.Native.Nat.{ℕ, _+_, _≤_}
+use native.Mathlib.Nat.{zero-add}
+use native.Mathlib.Omega.{arith}
+use mathlib.Core.Path.{_≡_, refl, sym, ap, ap₂, subst, _∙_}
+use mathlib.Core.Logic.{_≢_}
+use mathlib.Core.Bool.{Bool, true, false, cond, not, _&&_}
+use mathlib.Core.List.{List, [], _∷_}
+use lib.Dec.{T, eqb, ltb, leb}
+use lib.ListN.{length}
+use mir.Facts.{T-not, and-yes, yes-and, leb-yes}
+use Rattle.codec.specs.Le.{Bytes}
+use Rattle.vector.specs.Vec.{width}
+use Rattle.vector.proofs.Tests.{cond-elim, yes-eqb}
+use Rattle.protocol.specs.Record.{Setting}
+use Rattle.protocol.specs.State.{Net, State, setup}
+use Rattle.protocol.specs.Event.{Event, plain, numberOf}
+use Rattle.protocol.specs.declared.Answer.{Answer}
+use Rattle.protocol.specs.declared.Answer.the-variants.{Refused}
+use Rattle.protocol.specs.Step.{step, next, after, log}
+use Rattle.protocol.specs.Past.{served, history}
+use Rattle.protocol.specs.Causal.{GetCausal}
+use Rattle.protocol.specs.Count.{puts, delivers, count, waiting}
+use Rattle.protocol.proofs.Causal as Protocol
+use Rattle.protocol.proofs.Conserve.{conserved}
+use Rattle.protocol.proofs.Numbers.{no-24}
+use Rattle.table.specs.Parts.{tableLength}
+use Rattle.table.specs.Decode.{decode}
+use Rattle.table.specs.Put.{putChanges, fresh}
+use Rattle.lawful.specs.Values.{settingLawful}
+use Rattle.lawful.specs.WellFormed.{wellFormed}
+use Rattle.lawful.proofs.Facts.{setting-facts}
+use Rattle.lawful.proofs.Steps.{Sound, fresh-sound, fresh-says, step-sound, step-says}
+use Rattle.event.specs.Event.{codeLawful, eventOf}
+use Rattle.event.specs.Fields.{unusedZero}
+use Rattle.steps.proofs.Stepped.{cond-yes, cond-not}
+use Rattle.steps.specs.Step.{Called, gives, refused, stepOn}
+use Rattle.archive.specs.Call.{stepCall, setupCall}
+use Rattle.archive.specs.Story.{isEvent, tableAfter, linesOf, countOf}
+use Rattle.archive.specs.Promises.{setUp, CausalGet, CausalPage, Conserved, NeverIll}
+
+-- ---- a test that is known
+
+and-known : (a b : Bool) → T a → (a && b) ≡ b
+and-known true b t = refl
+and-known false b t = absurd t
+
+and-unknown : (a b : Bool) → T (not a) → (a && b) ≡ false
+and-unknown true b t = absurd t
+and-unknown false b t = refl
+
+-- ---- one call
+
+abbrev stepped : List ℕ → List ℕ → Called
+stepped t e = gives (step (decode t) (eventOf e) .says) (putChanges (step (decode t) (eventOf e) .changes) t)
+
+step-event : (t e : List ℕ) → Sound t → T (isEvent e) → stepCall t e ≡ stepped t e
+unfolding stepCall stepOn isEvent
+step-event t e R i =
+    let a = and-yes (eqb (length e) 32) (codeLawful e && unusedZero e) i in
+    let b = and-yes (codeLawful e) (unusedZero e) (a .1) in
+    cond-yes (eqb (length t) tableLength && eqb (length e) 32) _ _ (yes-and (eqb (length t) tableLength) (eqb (length e) 32) (yes-eqb (length t) tableLength (R .size)) (a .0))
+    ∙ cond-yes (wellFormed t) _ _ (R .formed)
+    ∙ cond-yes (codeLawful e) _ _ (b .0)
+    ∙ cond-yes (unusedZero e) _ _ (b .1)
+
+-- bytes that are no event are refused before the protocol, and not with 24
+record Turned (t : List ℕ) (c : Called) : Type 0 where
+  table : c .table ≡ t
+  number : c .answer ≢ Refused (plain 24)
+
+turned-by : (t : List ℕ) (n : ℕ) → n ≢ 24 → Turned t (refused n t)
+unfolding plain
+turned-by t n d = record { table = refl; number = λ e. d (ap numberOf e) }
+
+step-other : (t e : List ℕ) → Sound t → T (not (isEvent e)) → Turned t (stepCall t e)
+unfolding stepCall stepOn isEvent
+step-other t e R i =
+    cond-elim (Turned t) (eqb (length t) tableLength && eqb (length e) 32)
+    (λ a. cond-elim (Turned t) (wellFormed t)
+    (λ w. cond-elim (Turned t) (codeLawful e)
+    (λ b. cond-elim (Turned t) (unusedZero e)
+    (λ d. absurd (T-not (isEvent e) (yes-and (eqb (length e) 32) (codeLawful e && unusedZero e) (and-yes (eqb (length t) tableLength) (eqb (length e) 32) a .1) (yes-and (codeLawful e) (unusedZero e) b d)) i))
+    (λ d. turned-by t 11 (omega arith)))
+    (λ b. turned-by t 10 (omega arith)))
+    (λ w. absurd (T-not (wellFormed t) (R .formed) w)))
+    (λ a. turned-by t 23 (omega arith))
+
+step-sound : (t e : List ℕ) → Sound t → Sound (stepCall t e .table)
+step-sound t e R = go (isEvent e) (λ i. i) (λ i. i)
+  where
+    go : (b : Bool) → (T b → T (isEvent e)) → (T (not b) → T (not (isEvent e))) → Sound (stepCall t e .table)
+    go true f g = rw (step-event t e R (f tt)) (step-sound t R (eventOf e))
+    go false f g = rw (step-other t e R (g tt) .table) R
+
+-- ---- many calls: the protocol's events among the byte strings
+
+eventsOf : List (List ℕ) → List Event
+eventsOf [] = []
+eventsOf (e ∷ es) = cond (isEvent e) (eventOf e ∷ eventsOf es) (eventsOf es)
+
+after-sound : (t : List ℕ) (es : List (List ℕ)) → Sound t → Sound (tableAfter t es)
+unfolding tableAfter
+after-sound t [] R = R
+after-sound t (e ∷ es) R = after-sound (stepCall t e .table) es (step-sound t e R)
+
+decode-step : (t e : List ℕ) → Sound t → T (isEvent e) → decode (stepCall t e .table) ≡ next (decode t) (eventOf e)
+unfolding next
+decode-step t e R i = ap (λ c. decode (c .table)) (step-event t e R i) ∙ step-says t R (eventOf e)
+
+-- what is told of a run over bytes, and of the protocol's run
+record Told (t : List ℕ) (es : List (List ℕ)) (S : State) : Type 1 where
+  state : decode (tableAfter t es) ≡ after S (eventsOf es)
+  lines : linesOf t es ≡ log S (eventsOf es)
+  counts : (kind : Net → Event → Answer → Bool) → countOf kind t es ≡ count kind S (eventsOf es)
+
+told-event : (t e : List ℕ) (es : List (List ℕ)) → Sound t → T (isEvent e) → Told (stepCall t e .table) es (decode (stepCall t e .table)) → Told t (e ∷ es) (decode t)
+unfolding tableAfter linesOf countOf after log count eventsOf
+told-event t e es R i I = record {
+  state = I .state ∙ ap (λ S. after S (eventsOf es)) D ∙ sym (ap (after (decode t)) E);
+  lines = cond-yes (isEvent e) _ _ i ∙ (λ j. record { event = eventOf e; says = A j } ∷ L j) ∙ sym (ap (log (decode t)) E);
+  counts = λ kind.
+      ap₂ _+_ (ap (λ b. cond b 1 0) (and-known (isEvent e) (served (stepCall t e .answer) && kind (decode t .net) (eventOf e) (stepCall t e .answer)) i) ∙ ap (λ a. cond (served a && kind (decode t .net) (eventOf e) a) 1 0) A)
+      (I .counts kind ∙ ap (λ S. count kind S (eventsOf es)) D)
+      ∙ sym (ap (count kind (decode t)) E);
+}
+  where
+    D : decode (stepCall t e .table) ≡ next (decode t) (eventOf e)
+    D = decode-step t e R i
+
+    A : stepCall t e .answer ≡ step (decode t) (eventOf e) .says
+    A = ap (λ c. c .answer) (step-event t e R i)
+
+    L : linesOf (stepCall t e .table) es ≡ log (next (decode t) (eventOf e)) (eventsOf es)
+    L = I .lines ∙ ap (λ S. log S (eventsOf es)) D
+
+    E : cond (isEvent e) (eventOf e ∷ eventsOf es) (eventsOf es) ≡ eventOf e ∷ eventsOf es
+    E = cond-yes (isEvent e) _ _ i
+
+told-other : (t e : List ℕ) (es : List (List ℕ)) → Sound t → T (not (isEvent e)) → Told (stepCall t e .table) es (decode (stepCall t e .table)) → Told t (e ∷ es) (decode t)
+unfolding tableAfter linesOf countOf eventsOf
+told-other t e es R i I = record {
+  state = I .state ∙ ap (λ u. after (decode u) (eventsOf es)) D ∙ sym (ap (after (decode t)) E);
+  lines = cond-not (isEvent e) _ _ i ∙ I .lines ∙ ap (λ u. log (decode u) (eventsOf es)) D ∙ sym (ap (log (decode t)) E);
+  counts = λ kind.
+      ap₂ _+_ (ap (λ b. cond b 1 0) (and-unknown (isEvent e) (served (stepCall t e .answer) && kind (decode t .net) (eventOf e) (stepCall t e .answer)) i))
+      (I .counts kind ∙ ap (λ u. count kind (decode u) (eventsOf es)) D)
+      ∙ zero-add (count kind (decode t) (eventsOf es))
+      ∙ sym (ap (count kind (decode t)) E);
+}
+  where
+    D : stepCall t e .table ≡ t
+    D = step-other t e R i .table
+
+    E : cond (isEvent e) (eventOf e ∷ eventsOf es) (eventsOf es) ≡ eventsOf es
+    E = cond-not (isEvent e) _ _ i
+
+told : (t : List ℕ) (es : List (List ℕ)) → Sound t → Told t es (decode t)
+unfolding tableAfter linesOf countOf after log count eventsOf
+told t [] R = record { state = refl; lines = refl; counts = λ kind. refl }
+told t (e ∷ es) R = go (isEvent e) (λ i. i) (λ i. i) (told (stepCall t e .table) es (step-sound t e R))
+  where
+    go : (b : Bool) → (T b → T (isEvent e)) → (T (not b) → T (not (isEvent e))) → Told (stepCall t e .table) es (decode (stepCall t e .table)) → Told t (e ∷ es) (decode t)
+    go true f g I = told-event t e es R (f tt) I
+    go false f g I = told-other t e es R (g tt) I
+
+-- ---- from setup
+
+module _ (c : Setting) (l : T (settingLawful c)) (t : List ℕ) (long : length t ≡ tableLength) where
+  set-up : setUp c t ≡ fresh c
+  unfolding setupCall
+  set-up = ap (λ r. r .table) (cond-yes (eqb (length t) tableLength) _ (refused 23 t) (yes-eqb (length t) tableLength long) ∙ cond-yes (settingLawful c) _ (refused 11 t) l)
+
+  fresh-sound : Sound (setUp c t)
+  fresh-sound = rw set-up (fresh-sound c l)
+
+  decode-setUp : decode (setUp c t) ≡ setup c
+  decode-setUp = ap decode set-up ∙ fresh-says c l
+
+  run-told : (es : List (List ℕ)) → Told (setUp c t) es (setup c)
+  run-told es = subst (Told (setUp c t) es) decode-setUp (told (setUp c t) es fresh-sound)
+
+  run-sound : (es : List (List ℕ)) → Sound (tableAfter (setUp c t) es)
+  run-sound es = after-sound (setUp c t) es fresh-sound
+
+  few : c .sites ≤ width
+  unfolding width
+  few = setting-facts c l .1
+
+-- ---- the promises
+
+pub causal-get : CausalGet
+causal-get c l t long es e s k i g =
+    let K = run-told c l t long es in
+    let R = run-sound c l t long es in
+    subst (λ ls. GetCausal c (history ls) s k (stepCall (tableAfter (setUp c t) es) e .answer)) (sym (K .lines))
+    (subst (λ a. GetCausal c (history (log (setup c) (eventsOf es))) s k a)
+    (sym (ap (λ r. r .answer) (step-event (tableAfter (setUp c t) es) e R i) ∙ ap (λ S. step S (eventOf e) .says) (K .state) ∙ ap (λ v. step (after (setup c) (eventsOf es)) v .says) g))
+    (Protocol.causal-get c (few c l t long) (eventsOf es) s k))
+
+pub causal-page : CausalPage
+causal-page c l t long es s = rw (run-told c l t long es .lines) (Protocol.causal-page c (few c l t long) (eventsOf es) s)
+
+pub conserved-bytes : Conserved
+conserved-bytes c l t long es i m p d b =
+    let K = run-told c l t long es in
+    K .counts (puts i p) ∙ conserved c (eventsOf es) i m p d b
+    ∙ ap₂ _+_ (sym (K .counts (delivers i m p))) (ap (λ S. waiting (S .net .chan i m p)) (sym (K .state)))
+
+pub never-ill : NeverIll
+never-ill c l t long es e = go (isEvent e) (λ i. i) (λ i. i)
+  where
+    R : Sound (tableAfter (setUp c t) es)
+    R = run-sound c l t long es
+
+    go : (b : Bool) → (T b → T (isEvent e)) → (T (not b) → T (not (isEvent e))) → stepCall (tableAfter (setUp c t) es) e .answer ≢ Refused (plain 24)
+    go true f g = rw (step-event (tableAfter (setUp c t) es) e R (f tt)) (no-24 (decode (tableAfter (setUp c t) es)) (eventOf e))
+    go false f g = step-other (tableAfter (setUp c t) es) e R (g tt) .number

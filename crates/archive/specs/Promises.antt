@@ -1,0 +1,40 @@
+-- What is promised of every list of event byte strings, of any length and lawful or not, stepped one by one from `setup`. Assumes nothing.
+use Prim.Native.Nat.{ℕ, _+_, _<_}
+use mathlib.Core.Path.{_≡_}
+use mathlib.Core.Logic.{_≢_}
+use mathlib.Core.List.{List}
+use lib.Dec.{T}
+use lib.ListN.{length}
+use Rattle.protocol.specs.Record.{Setting}
+use Rattle.protocol.specs.Event.{GET, plain}
+use Rattle.protocol.specs.declared.Answer.the-variants.{Refused}
+use Rattle.protocol.specs.Past.{history}
+use Rattle.protocol.specs.Causal.{GetCausal, PageCausal}
+use Rattle.protocol.specs.Count.{puts, delivers, waiting}
+use Rattle.table.specs.Parts.{tableLength}
+use Rattle.table.specs.Decode.{decode}
+use Rattle.lawful.specs.Values.{settingLawful}
+use Rattle.event.specs.Event.{eventOf}
+use Rattle.archive.specs.Call.{stepCall, setupCall}
+use Rattle.archive.specs.Story.{isEvent, tableAfter, linesOf, countOf}
+
+-- the table t, of any bytes, set up for the constants
+abbrev pub setUp : Setting → List ℕ → List ℕ
+setUp c t = setupCall t (c .sites) (c .parts) .table
+
+-- DEMAND 3, of a GET that comes after any event bytes, and of every page as far as it has come
+abbrev pub CausalGet : Type 0
+CausalGet = (c : Setting) → T (settingLawful c) → (t : List ℕ) → length t ≡ tableLength → (es : List (List ℕ)) (e : List ℕ) (s k : ℕ) → T (isEvent e) → eventOf e ≡ GET s k →
+    GetCausal c (history (linesOf (setUp c t) es)) s k (stepCall (tableAfter (setUp c t) es) e .answer)
+
+abbrev pub CausalPage : Type 0
+CausalPage = (c : Setting) → T (settingLawful c) → (t : List ℕ) → length t ≡ tableLength → (es : List (List ℕ)) (s : ℕ) → PageCausal c (history (linesOf (setUp c t) es)) s
+
+-- CONSERVATION on the channel from site i to site m at partition p
+abbrev pub Conserved : Type 0
+Conserved = (c : Setting) → T (settingLawful c) → (t : List ℕ) → length t ≡ tableLength → (es : List (List ℕ)) (i m p : ℕ) → i ≢ m → m < c .sites →
+    countOf (puts i p) (setUp c t) es ≡ countOf (delivers i m p) (setUp c t) es + waiting (decode (tableAfter (setUp c t) es) .net .chan i m p)
+
+-- a table that setup and steps have led to is never refused with 24
+abbrev pub NeverIll : Type 0
+NeverIll = (c : Setting) → T (settingLawful c) → (t : List ℕ) → length t ≡ tableLength → (es : List (List ℕ)) (e : List ℕ) → stepCall (tableAfter (setUp c t) es) e .answer ≢ Refused (plain 24)

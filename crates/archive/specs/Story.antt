@@ -1,0 +1,38 @@
+-- Call after call of `step`: the table that a list of event byte strings leads to, and each event that reaches the protocol with the answer that
+-- `step` gave. The past is worked out from these lines alone. Assumes nothing.
+use Prim.Native.Nat.{ℕ, _+_}
+use mathlib.Core.Bool.{Bool, cond, _&&_}
+use mathlib.Core.List.{List, [], _∷_}
+use lib.Dec.{eqb}
+use lib.ListN.{length}
+use Rattle.protocol.specs.State.{Net}
+use Rattle.protocol.specs.Event.{Event}
+use Rattle.protocol.specs.declared.Answer.{Answer}
+use Rattle.protocol.specs.Step.{Line}
+use Rattle.protocol.specs.Past.{served}
+use Rattle.table.specs.Decode.{decode}
+use Rattle.event.specs.Event.{codeLawful, eventOf}
+use Rattle.event.specs.Fields.{unusedZero}
+use Rattle.archive.specs.Call.{stepCall}
+
+-- the bytes are an event: neither 23, 10 nor an unused field's 11
+unfoldable pub isEvent : List ℕ → Bool
+isEvent e = eqb (length e) 32 && (codeLawful e && unusedZero e)
+
+unfoldable pub tableAfter : List ℕ → List (List ℕ) → List ℕ
+tableAfter t [] = t
+tableAfter t (e ∷ es) = tableAfter (stepCall t e .table) es
+
+unfoldable pub linesOf : List ℕ → List (List ℕ) → List Line
+linesOf t [] = []
+linesOf t (e ∷ es) =
+    let c = stepCall t e in
+    let rest = linesOf (c .table) es in
+    cond (isEvent e) (record { event = eventOf e; says = c .answer } ∷ rest) rest
+
+-- how many of the events are served and of the kind
+unfoldable pub countOf : (Net → Event → Answer → Bool) → List ℕ → List (List ℕ) → ℕ
+countOf kind t [] = 0
+countOf kind t (e ∷ es) =
+    let c = stepCall t e in
+    cond (isEvent e && (served (c .answer) && kind (decode t .net) (eventOf e) (c .answer))) 1 0 + countOf kind (c .table) es

@@ -1,0 +1,69 @@
+-- `lawful::channels::messages_formed` meets its contract: `all` says it of the first k messages. Assumes nothing.
+use mathlib.Core.Path.{_≡_, sym}
+use Prim.Native.Nat.{_-_, _≤_}
+use native.Mathlib.Omega.{arith}
+use Rattle.vector.specs.Vec.{allBelow}
+use Rattle.vector.proofs.Entries.{allBelow-none, allBelow-step}
+use Rattle.table.specs.Channel.{ringAt}
+use Rattle.lawful.specs.WellFormed.{messageFormed}
+use borrow.Author.Needs.{needs}
+use Rattle.lawful.proofs.channels.messages_formed.Statement.{statement}
+use Rattle.lawful.proofs.channels.messages_formed.Tie as tie
+
+abbrev Inv-loop : tie.InvT-loop
+Inv-loop b sites parts i p front wait all₀ k₀ all k = (k ≤ wait) × (all ≡ allBelow k (λ j. messageFormed (record { sites = sites; parts = parts }) i p b (ringAt front j)))
+
+abbrev μ-loop : tie.MeasureT-loop
+μ-loop b sites parts i p front wait all₀ k₀ all k = wait - k
+
+loop-holds : tie.Need-loop-holds Inv-loop μ-loop
+loop-holds c = (omega arith, sym (allBelow-none _))
+
+cast-at : tie.Need-cast-at Inv-loop μ-loop
+cast-at c = search needs
+
+add-at : tie.Need-add-at Inv-loop μ-loop
+add-at c = search needs
+
+mul-at : tie.Need-mul-at Inv-loop μ-loop
+mul-at c = search needs
+
+add-at-2 : tie.Need-add-at-2 Inv-loop μ-loop
+add-at-2 c = search needs
+
+message-formed-requires : tie.Need-message-formed-requires Inv-loop μ-loop
+message-formed-requires c κs = search needs
+
+add-k : tie.Need-add-k Inv-loop μ-loop
+add-k c = search needs
+
+loop-less : tie.Need-loop-less Inv-loop μ-loop
+loop-less c = search needs
+
+loop-again : tie.Need-loop-again Inv-loop μ-loop
+loop-again c =
+    let l = c .before .before in
+    (omega arith, rw (l .loop .inv .1, c .message-formed .ensures) (sym (allBelow-step (l .loop .k) _)))
+
+returns : tie.Need-returns Inv-loop μ-loop
+returns c =
+    let l = c .before in
+    let e : l .loop .k ≡ l .before .before .args .wait = omega arith in
+    rw e at (l .loop .inv .1)
+
+pub messages-formed-spec : {M : Type 1} → statement M
+messages-formed-spec =
+    tie.close
+    (tie.spec
+    Inv-loop
+    μ-loop
+    loop-holds
+    cast-at
+    add-at
+    mul-at
+    add-at-2
+    message-formed-requires
+    add-k
+    loop-less
+    loop-again
+    returns)

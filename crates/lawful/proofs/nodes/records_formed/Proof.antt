@@ -1,0 +1,65 @@
+-- `lawful::nodes::records_formed` meets its contract: `all` says it of the first k records. Assumes nothing.
+use mathlib.Core.Path.{_≡_, sym}
+use Prim.Native.Nat.{_-_, _≤_}
+use native.Mathlib.Omega.{arith}
+use Rattle.vector.specs.Vec.{allBelow}
+use Rattle.vector.proofs.Entries.{allBelow-none, allBelow-step}
+use Rattle.table.specs.Node.{slotAt}
+use Rattle.lawful.specs.WellFormed.{recordFormed}
+use borrow.Author.Needs.{needs}
+use Rattle.lawful.proofs.nodes.records_formed.Statement.{statement}
+use Rattle.lawful.proofs.nodes.records_formed.Tie as tie
+
+abbrev Inv-loop : tie.InvT-loop
+Inv-loop n sites parts p held all₀ k₀ all k = (k ≤ held) × (all ≡ allBelow k (λ j. recordFormed (record { sites = sites; parts = parts }) p n (slotAt j)))
+
+abbrev μ-loop : tie.MeasureT-loop
+μ-loop n sites parts p held all₀ k₀ all k = held - k
+
+loop-holds : tie.Need-loop-holds Inv-loop μ-loop
+loop-holds c = (omega arith, sym (allBelow-none _))
+
+cast-record-formed : tie.Need-cast-record-formed Inv-loop μ-loop
+cast-record-formed c = search needs
+
+mul-record-formed : tie.Need-mul-record-formed Inv-loop μ-loop
+mul-record-formed c = search needs
+
+add-record-formed : tie.Need-add-record-formed Inv-loop μ-loop
+add-record-formed c = search needs
+
+record-formed-requires : tie.Need-record-formed-requires Inv-loop μ-loop
+record-formed-requires c κs = search needs
+
+add-k : tie.Need-add-k Inv-loop μ-loop
+add-k c = search needs
+
+loop-less : tie.Need-loop-less Inv-loop μ-loop
+loop-less c = search needs
+
+loop-again : tie.Need-loop-again Inv-loop μ-loop
+loop-again c =
+    let l = c .before .before in
+    (omega arith, rw (l .loop .inv .1, c .record-formed .ensures) (sym (allBelow-step (l .loop .k) _)))
+
+returns : tie.Need-returns Inv-loop μ-loop
+returns c =
+    let l = c .before in
+    let e : l .loop .k ≡ l .before .before .args .held = omega arith in
+    rw e at (l .loop .inv .1)
+
+pub records-formed-spec : {M : Type 1} → statement M
+records-formed-spec =
+    tie.close
+    (tie.spec
+    Inv-loop
+    μ-loop
+    loop-holds
+    cast-record-formed
+    mul-record-formed
+    add-record-formed
+    record-formed-requires
+    add-k
+    loop-less
+    loop-again
+    returns)

@@ -1,0 +1,21 @@
+-- `lawful::vectors::vector_formed` meets its contract: what was loaded are the entries. Assumes nothing.
+use Rattle.vector.specs.Entries.{entry}
+use Rattle.table.proofs.Values.{entry-loadVec}
+use mathlib.Core.Path.{ap, _∙_}
+use Rattle.lawful.specs.Values.{vecLawful}
+use Rattle.protocol.specs.Record.{Setting}
+use borrow.Author.Needs.{needs}
+use Rattle.lawful.proofs.vectors.vector_formed.Statement.{statement}
+use Rattle.lawful.proofs.vectors.vector_formed.Tie as tie
+
+load-vector-requires : tie.Need-load-vector-requires
+load-vector-requires c κs = search needs
+
+vector-lawful-requires : tie.Need-vector-lawful-requires
+vector-lawful-requires c κs = search needs
+
+returns : tie.Need-returns
+returns c = λ parts. rw (c .vector-lawful .ensures parts, c .before .load-vector .ensures, entry-loadVec)
+
+pub vector-formed-spec : {M : Type 1} → statement M
+vector-formed-spec = tie.close (tie.spec load-vector-requires vector-lawful-requires returns)

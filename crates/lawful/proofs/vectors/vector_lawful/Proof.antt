@@ -1,0 +1,66 @@
+-- `lawful::vectors::vector_lawful` meets its contract: `all` says it of the first i entries. Assumes nothing.
+use mathlib.Core.Path.{_≡_, sym}
+use mathlib.Core.Bool.{cond}
+use Prim.Native.Nat.{_-_, _≤_}
+use native.Mathlib.Omega.{arith}
+use lib.Dec.{ltb, eqb}
+use Rattle.vector.specs.Vec.{width, allBelow}
+use Rattle.vector.specs.Entries.{entry}
+use Rattle.vector.proofs.Entries.{allBelow-none, allBelow-step}
+use Rattle.lawful.specs.Values.{timeLawful, vecLawful}
+use borrow.Author.Needs.{needs}
+use Rattle.lawful.proofs.vectors.vector_lawful.Statement.{statement}
+use Rattle.lawful.proofs.vectors.vector_lawful.Tie as tie
+
+abbrev Inv-loop : tie.InvT-loop
+Inv-loop sites e all₀ i₀ all i = (i ≤ 4) × (all ≡ allBelow i (λ k. cond (ltb k sites) (timeLawful (entry e k)) (eqb (entry e k) 0)))
+
+abbrev μ-loop : tie.MeasureT-loop
+μ-loop sites e all₀ i₀ all i = 4 - i
+
+loop-holds : tie.Need-loop-holds Inv-loop μ-loop
+loop-holds c = (omega arith, sym (allBelow-none _))
+
+mul-entry-lawful : tie.Need-mul-entry-lawful Inv-loop μ-loop
+mul-entry-lawful c = search needs
+
+array-read-entry-lawful : tie.Need-array-read-entry-lawful Inv-loop μ-loop
+array-read-entry-lawful c = search needs
+
+entry-lawful-requires : tie.Need-entry-lawful-requires Inv-loop μ-loop
+entry-lawful-requires c κs = search needs
+
+add-i : tie.Need-add-i Inv-loop μ-loop
+add-i c = search needs
+
+loop-less : tie.Need-loop-less Inv-loop μ-loop
+loop-less c = search needs
+
+loop-again : tie.Need-loop-again Inv-loop μ-loop
+unfolding entry
+loop-again c =
+    let l = c .before .before in
+    (omega arith, rw (l .loop .inv .1, c .entry-lawful .ensures) (sym (allBelow-step (l .loop .i) _)))
+
+returns : tie.Need-returns Inv-loop μ-loop
+unfolding width vecLawful
+returns c =
+    λ parts.
+    let l = c .before in
+    let e : l .loop .i ≡ 4 = omega arith in
+    rw e at (l .loop .inv .1)
+
+pub vector-lawful-spec : {M : Type 1} → statement M
+vector-lawful-spec =
+    tie.close
+    (tie.spec
+    Inv-loop
+    μ-loop
+    loop-holds
+    mul-entry-lawful
+    array-read-entry-lawful
+    entry-lawful-requires
+    add-i
+    loop-less
+    loop-again
+    returns)

@@ -1,0 +1,67 @@
+-- `lawful::well_formed` meets its contract, whether its numbers of sites and partitions are lawful or not. Assumes nothing.
+use mathlib.Core.Path.{_≡_, sym, subst, _∙_}
+use mathlib.Core.Bool.{true, _&&_}
+use Prim.Native.Nat.{_<_}
+use borrow.Author.Tests.{not-true, not-false}
+use lib.Dec.{T, leb, ltb}
+use mir.Facts.{and-yes, ltb-yes}
+use Rattle.protocol.specs.Record.{Setting}
+use Rattle.table.specs.Decode.{settingIn}
+use Rattle.lawful.specs.Values.{settingLawful}
+use Rattle.lawful.specs.WellFormed.{wellFormed}
+use borrow.Author.Needs.{needs}
+use Rattle.lawful.proofs.well_formed.Statement.{statement}
+use Rattle.lawful.proofs.well_formed.Tie as tie
+
+-- a lawful number of partitions is not 0
+parts-some : (c : Setting) → settingLawful c ≡ true → 0 < c .parts
+unfolding settingLawful
+parts-some c h =
+    let both = and-yes (ltb 0 (c .sites) && leb (c .sites) 4) (ltb 0 (c .parts) && leb (c .parts) 4) (subst T (sym h) tt) in
+    ltb-yes (and-yes (ltb 0 (c .parts)) (leb (c .parts) 4) (both .1) .0)
+
+load-u8-requires : tie.Need-load-u8-requires
+load-u8-requires c κs = search needs
+
+load-u8-requires-2 : tie.Need-load-u8-requires-2
+load-u8-requires-2 c κs = search needs
+
+setting-lawful-requires : tie.Need-setting-lawful-requires
+setting-lawful-requires c κs = search needs
+
+returns : tie.Need-returns
+unfolding wellFormed settingIn
+returns c =
+    let no = sym (c .before .setting-lawful .ensures) ∙ not-true _ (c .if1 .taken) in
+    let loads = c .before .before in
+    rw (← loads .load-u82 .ensures, ← loads .before .load-u8 .ensures, no)
+
+sessions-formed-requires : tie.Need-sessions-formed-requires
+sessions-formed-requires c κs = search needs
+
+sites-formed-requires : tie.Need-sites-formed-requires
+sites-formed-requires c κs =
+    let at = c .before in
+    let yes = sym (at .before .setting-lawful .ensures) ∙ not-false _ (at .if1 .left) in
+    (search needs, parts-some _ yes)
+
+returns-2 : tie.Need-returns-2
+unfolding wellFormed settingIn
+returns-2 c =
+    let at = c .before .before in
+    let yes = sym (at .before .setting-lawful .ensures) ∙ not-false _ (at .if1 .left) in
+    let parts = at .before .before .load-u82 in
+    let sites = at .before .before .before .load-u8 in
+    rw (← parts .ensures, ← sites .ensures, yes, c .before .sessions-formed .ensures (parts .result), c .sites-formed .ensures)
+
+pub well-formed-spec : {M : Type 1} → statement M
+well-formed-spec =
+    tie.close
+    (tie.spec
+    load-u8-requires
+    load-u8-requires-2
+    setting-lawful-requires
+    returns
+    sessions-formed-requires
+    sites-formed-requires
+    returns-2)

@@ -1,0 +1,38 @@
+// A channel's 464 bytes: messages that are lawful, none where the channel is absent. In order: the messages, the channel. Assumes nothing.
+ghost use mathlib.Core.Path.{_≡_};
+ghost use Prim.Native.Nat.{_≤_, _<_};
+ghost use lib.ListN.{length};
+ghost use Rattle.vector.specs.Vec.{allBelow};
+ghost use Rattle.protocol.specs.Record.{Setting};
+ghost use Rattle.table.specs.Channel.{ringAt, frontIn};
+ghost use Rattle.lawful.specs.WellFormed.{messageFormed, channelFormed};
+use crate::letters;
+use crate::nodes;
+
+// The first `wait` messages from the place `front` on, round the ring.
+pub fn messages_formed(b: &[u8], sites: u8, parts: u8, i: u8, p: u8, front: u8, wait: u8) -> bool
+    requires { ⌜ (length (now b) ≡ 464) × (0 < parts) ⌝ }
+    ensures { λ r. ⌜ r ≡ allBelow wait (λ k. messageFormed (record { sites = sites; parts = parts }) i p (now (b .entry)) (ringAt front k)) ⌝ }
+{
+    let mut all = true;
+    let mut k = 0;
+    while k < wait {
+        let at = 16 + 56 * ((front as usize + k as usize) % 8);
+        all = all & letters::message_formed(b, at, sites, parts, i, p);
+        k += 1;
+    }
+    all
+}
+
+// The channel from site i at partition p to the place d among the other sites.
+pub fn channel_formed(b: &[u8], sites: u8, parts: u8, i: u8, p: u8, d: u8) -> bool
+    requires { ⌜ (length (now b) ≡ 464) × (0 < parts) × (d < 3) ⌝ }
+    ensures { λ r. ⌜ r ≡ channelFormed (record { sites = sites; parts = parts }) i p d (now (b .entry)) ⌝ }
+{
+    let wait = table::channels::waiting(b);
+    if nodes::most(((i < sites) & (p < parts)) & (d + 1 < sites), 8) < wait {
+        return false;
+    }
+    let front = codec::load_u8(b, 0);
+    messages_formed(b, sites, parts, i, p, front, wait)
+}

@@ -1,0 +1,47 @@
+// A node's 1,856 bytes: clock and vector within the limits, and records that are lawful, none where the node is absent. In order: how many there
+// may be, the records, the node. Assumes nothing.
+ghost use mathlib.Core.Path.{_≡_};
+ghost use mathlib.Core.Bool.{cond};
+ghost use Prim.Native.Nat.{_≤_, _<_};
+ghost use lib.ListN.{length};
+ghost use Rattle.vector.specs.Vec.{allBelow};
+ghost use Rattle.protocol.specs.Record.{Setting};
+ghost use Rattle.table.specs.Node.{slotAt};
+ghost use Rattle.lawful.specs.WellFormed.{recordFormed, nodeFormed};
+use crate::letters;
+use crate::vectors;
+
+// "nodes and channels of absent sites or partitions hold no record or message"
+pub fn most(exists: bool, n: u8) -> u8
+    ensures { λ r. ⌜ (r ≡ cond exists n 0) × (r ≤ n) ⌝ }
+{
+    if exists { n } else { 0 }
+}
+
+// The first `held` records.
+pub fn records_formed(n: &[u8], sites: u8, parts: u8, p: u8, held: u8) -> bool
+    requires { ⌜ (length (now n) ≡ 1856) × (0 < parts) × (held ≤ 32) ⌝ }
+    ensures { λ r. ⌜ r ≡ allBelow held (λ k. recordFormed (record { sites = sites; parts = parts }) p (now (n .entry)) (slotAt k)) ⌝ }
+{
+    let mut all = true;
+    let mut k = 0;
+    while k < held {
+        all = all & letters::record_formed(n, 64 + 56 * (k as usize), sites, parts, p);
+        k += 1;
+    }
+    all
+}
+
+// The node of site m and partition p.
+pub fn node_formed(n: &[u8], sites: u8, parts: u8, m: u8, p: u8) -> bool
+    requires { ⌜ (length (now n) ≡ 1856) × (0 < parts) ⌝ }
+    ensures { λ r. ⌜ r ≡ nodeFormed (record { sites = sites; parts = parts }) m p (now (n .entry)) ⌝ }
+{
+    let held = table::nodes::held(n);
+    if most((m < sites) & (p < parts), 32) < held {
+        return false;
+    }
+    let clock = table::nodes::clock(n);
+    (vectors::time_lawful(clock) & vectors::vector_formed(n, 8, sites))
+        & records_formed(n, sites, parts, p, held)
+}

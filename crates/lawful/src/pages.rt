@@ -1,0 +1,65 @@
+// "an open page has 1 to 8 different keys, each 0 to 63". In order: the range of keys, whether a key is none of some, whether keys differ, the keys of
+// a session's page. Assumes nothing.
+ghost use mathlib.Core.Path.{_≡_};
+ghost use mathlib.Core.Bool.{not, _&&_, _||_};
+ghost use Prim.Native.Nat.{_+_, _≤_};
+ghost use lib.Dec.{ltb, eqb};
+ghost use lib.ListN.{length};
+ghost use Rattle.codec.specs.Le.{load};
+ghost use Rattle.protocol.specs.Needs.{keysLawful, holdsKey, distinct};
+ghost use Rattle.table.specs.Tabulate.{tabulate};
+
+// The n keys from `at` are 0 to 63.
+pub fn keys_lawful(b: &[u8], at: usize, n: usize) -> bool
+    requires { ⌜ at + n ≤ length (now b) ⌝ }
+    ensures { λ r. ⌜ r ≡ keysLawful (tabulate n (λ i. load 1 (now (b .entry)) (at + i))) ⌝ }
+{
+    let mut all = true;
+    let mut i = 0;
+    while i < n {
+        all = all & (codec::load_u8(b, at + i) < 64);
+        i += 1;
+    }
+    all
+}
+
+// The key k is one of the n from `at`.
+pub fn holds_key(b: &[u8], at: usize, n: usize, k: u8) -> bool
+    requires { ⌜ at + n ≤ length (now b) ⌝ }
+    ensures { λ r. ⌜ r ≡ holdsKey k (tabulate n (λ i. load 1 (now (b .entry)) (at + i))) ⌝ }
+{
+    let mut any = false;
+    let mut i = 0;
+    while i < n {
+        any = any | (codec::load_u8(b, at + i) == k);
+        i += 1;
+    }
+    any
+}
+
+// The n keys from `at` differ: none is one of those before it.
+pub fn keys_differ(b: &[u8], at: usize, n: usize) -> bool
+    requires { ⌜ at + n ≤ length (now b) ⌝ }
+    ensures { λ r. ⌜ r ≡ distinct (tabulate n (λ i. load 1 (now (b .entry)) (at + i))) ⌝ }
+{
+    let mut all = true;
+    let mut i = 0;
+    while i < n {
+        let k = codec::load_u8(b, at + i);
+        all = all & !holds_key(b, at, i, k);
+        i += 1;
+    }
+    all
+}
+
+// The keys of a session's page, of which `count` are in use, where the page is open.
+pub fn page_keys(b: &[u8], count: u8) -> bool
+    requires { ⌜ (length (now b) ≡ 128) × (count ≤ 8) ⌝ }
+    ensures { λ r. ⌜ r ≡ (not (eqb (load 1 (now (b .entry)) 2) 1) || (ltb 0 count && (keysLawful (tabulate count (λ i. load 1 (now (b .entry)) (8 + i))) && distinct (tabulate count (λ i. load 1 (now (b .entry)) (8 + i)))))) ⌝ }
+{
+    if codec::load_u8(b, 2) != 1 {
+        return true;
+    }
+    let n = count as usize;
+    (0 < count) & (keys_lawful(b, 8, n) & keys_differ(b, 8, n))
+}

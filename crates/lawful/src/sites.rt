@@ -1,0 +1,58 @@
+// A site's part of the table, 13,056 bytes: 4 nodes, and for each partition 3 outgoing channels. Each function lends the node or the channel that it
+// is about. In order: a node, a channel, the channels of a partition, the site. Assumes nothing.
+ghost use mathlib.Core.Path.{_≡_};
+ghost use Prim.Native.Nat.{_≤_, _<_};
+ghost use lib.ListN.{length};
+ghost use Rattle.vector.specs.Vec.{allBelow};
+ghost use Rattle.protocol.specs.Record.{Setting};
+ghost use Rattle.table.specs.Parts.{nodeOf, channelOf};
+ghost use Rattle.lawful.specs.WellFormed.{nodeFormed, channelFormed, siteFormed};
+use crate::channels;
+use crate::nodes;
+
+// Node p of site m.
+pub fn node_at(site: &[u8], sites: u8, parts: u8, m: u8, p: u8) -> bool
+    requires { ⌜ (length (now site) ≡ 13056) × (0 < parts) × (p < 4) ⌝ }
+    ensures { λ r. ⌜ r ≡ nodeFormed (record { sites = sites; parts = parts }) m p (nodeOf (now (site .entry)) p) ⌝ }
+{
+    let off = 1856 * (p as usize);
+    let end = off + 1856;
+    nodes::node_formed(&site[off..end], sites, parts, m, p)
+}
+
+// The channel of partition p to the place d.
+pub fn channel_at(site: &[u8], sites: u8, parts: u8, m: u8, p: u8, d: u8) -> bool
+    requires { ⌜ (length (now site) ≡ 13056) × (0 < parts) × (p < 4) × (d < 3) ⌝ }
+    ensures { λ r. ⌜ r ≡ channelFormed (record { sites = sites; parts = parts }) m p d (channelOf (now (site .entry)) p d) ⌝ }
+{
+    let off = 7424 + 464 * (3 * (p as usize) + d as usize);
+    let end = off + 464;
+    channels::channel_formed(&site[off..end], sites, parts, m, p, d)
+}
+
+pub fn channels_formed(site: &[u8], sites: u8, parts: u8, m: u8, p: u8) -> bool
+    requires { ⌜ (length (now site) ≡ 13056) × (0 < parts) × (p < 4) ⌝ }
+    ensures { λ r. ⌜ r ≡ allBelow 3 (λ d. channelFormed (record { sites = sites; parts = parts }) m p d (channelOf (now (site .entry)) p d)) ⌝ }
+{
+    let mut all = true;
+    let mut d = 0;
+    while d < 3 {
+        all = all & channel_at(site, sites, parts, m, p, d);
+        d += 1;
+    }
+    all
+}
+
+// Site m.
+pub fn site_formed(site: &[u8], sites: u8, parts: u8, m: u8) -> bool
+    requires { ⌜ (length (now site) ≡ 13056) × (0 < parts) ⌝ }
+    ensures { λ r. ⌜ r ≡ siteFormed (record { sites = sites; parts = parts }) m (now (site .entry)) ⌝ }
+{
+    let mut all = true;
+    let mut p = 0;
+    while p < 4 {
+        all = all & (node_at(site, sites, parts, m, p) & channels_formed(site, sites, parts, m, p));
+        p += 1;
+    }
+    all
+}

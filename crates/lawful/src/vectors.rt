@@ -1,0 +1,66 @@
+// "clocks, vectors and stamps are within the time limit and entries of absent sites are 0". In order: a time, an entry, a vector by value, a vector
+// in bytes, and the vector zero in bytes. Assumes nothing.
+ghost use mathlib.Core.Path.{_≡_};
+ghost use mathlib.Core.Bool.{cond};
+ghost use Prim.Native.Nat.{ℕ, _+_, _≤_};
+ghost use lib.Dec.{ltb, eqb};
+ghost use lib.ListN.{length};
+ghost use Rattle.vector.specs.Vec.{width, allBelow};
+ghost use Rattle.vector.specs.Entries.{entry, loadVec};
+ghost use Rattle.protocol.specs.Record.{Setting};
+ghost use Rattle.lawful.specs.Values.{timeLawful, vecLawful};
+use vector::Vector;
+
+// "0 to 281,474,976,710,655"
+pub fn time_lawful(x: u64) -> bool
+    ensures { λ r. ⌜ r ≡ timeLawful x ⌝ }
+{
+    x < 281474976710656
+}
+
+// The entry x of site i.
+pub fn entry_lawful(x: u64, i: usize, sites: u8) -> bool
+    ensures { λ r. ⌜ r ≡ cond (ltb i sites) (timeLawful x) (eqb x 0) ⌝ }
+{
+    if i < sites as usize {
+        time_lawful(x)
+    } else {
+        x == 0
+    }
+}
+
+// Of the setting only the number of sites is asked.
+pub fn vector_lawful(v: Vector, sites: u8) -> bool
+    ensures { λ r. ⌜ ((parts : ℕ) → r ≡ vecLawful (record { sites = sites; parts = parts }) (entry (v .e))) ⌝ }
+{
+    let e = v.e;
+    let mut all = true;
+    let mut i = 0;
+    while i < Vector::WIDTH {
+        all = all & entry_lawful(e[i], i, sites);
+        i += 1;
+    }
+    all
+}
+
+// The vector at `at`.
+pub fn vector_formed(b: &[u8], at: usize, sites: u8) -> bool
+    requires { ⌜ at + 32 ≤ length (now b) ⌝ }
+    ensures { λ r. ⌜ ((parts : ℕ) → r ≡ vecLawful (record { sites = sites; parts = parts }) (loadVec (now (b .entry)) at)) ⌝ }
+{
+    vector_lawful(vector::load_vector(b, at), sites)
+}
+
+// The vector at `at` is zero.
+pub fn vector_zero(b: &[u8], at: usize) -> bool
+    requires { ⌜ at + 32 ≤ length (now b) ⌝ }
+    ensures { λ r. ⌜ r ≡ allBelow width (λ i. eqb (loadVec (now (b .entry)) at i) 0) ⌝ }
+{
+    let mut all = true;
+    let mut i = 0;
+    while i < Vector::WIDTH {
+        all = all & (codec::load_u64(b, at + 8 * i) == 0);
+        i += 1;
+    }
+    all
+}

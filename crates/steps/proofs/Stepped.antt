@@ -1,0 +1,117 @@
+-- A step on a well-formed table by its tests: an event of which a field is not lawful is refused with 11, and of any other the protocol decides with
+-- its ranges met. Assumes nothing.
+use Prim.Native.Nat.{ℕ}
+use mathlib.Core.Path.{_≡_, refl, sym, ap, subst, _∙_}
+use mathlib.Core.Logic.{_⊎_, inl, inr}
+use mathlib.Core.Bool.{Bool, true, false, cond, not, _&&_}
+use mathlib.Core.List.{List, [], _∷_, _++_}
+use lib.Dec.{T}
+use mir.Facts.{and-yes, and-no}
+use Rattle.protocol.specs.Record.{Setting}
+use Rattle.protocol.specs.State.{State}
+use Rattle.protocol.specs.Event.{Event, OPEN, CLOSE, CLOCK, GET, PUT, BEGIN, READ, END, BEAT, DELIVER, plain}
+use Rattle.protocol.specs.declared.Answer.the-variants.{Refused}
+use Rattle.protocol.specs.View.{view}
+use Rattle.protocol.specs.Needs.{Need, ranges, needs}
+use Rattle.protocol.specs.Serve.{Outcome, _and_, serve}
+use Rattle.protocol.specs.Step.{judge, decide, step}
+use Rattle.protocol.proofs.Steps.{view-setting}
+use Rattle.table.specs.Decode.{settingIn, decode}
+use Rattle.table.specs.Put.{putChanges}
+use Rattle.event.specs.Event.{codeLawful, eventOf, met}
+use Rattle.event.specs.Fields.{unusedZero}
+use Rattle.decision.specs.Decided.{answered}
+use Rattle.steps.specs.Step.{gives, refused, stepOn}
+
+-- ---- tests that are known
+
+pub cond-yes {ℓ} : {A : Type ℓ} (b : Bool) (x y : A) → T b → cond b x y ≡ x
+cond-yes true x y t = refl
+cond-yes false x y t = absurd t
+
+pub cond-not {ℓ} : {A : Type ℓ} (b : Bool) (x y : A) → T (not b) → cond b x y ≡ y
+cond-not true x y t = absurd t
+cond-not false x y t = refl
+
+cond-same {ℓ} : {A : Type ℓ} (b : Bool) (x : A) → cond b x x ≡ x
+cond-same true x = refl
+cond-same false x = refl
+
+-- ---- ranges that are met, and ranges that are not
+
+judge-met : (ns ms : List Need) (o : Outcome) → T (met ns) → judge (ns ++ ms) o ≡ judge ms o
+unfolding judge met
+judge-met [] ms o t = refl
+judge-met (n ∷ ns) ms o t = let k = and-yes (n .holds) (met ns) t in cond-yes (n .holds) _ _ (k .0) ∙ judge-met ns ms o (k .1)
+
+-- every need is refused with 11
+abbrev All11 : List Need → Type 0
+All11 [] = Unit {0}
+All11 (n ∷ ns) = (n .refusal ≡ plain 11) × All11 ns
+
+judge-unmet : (ns ms : List Need) (o : Outcome) → All11 ns → T (not (met ns)) → judge (ns ++ ms) o ≡ (Refused (plain 11) and [])
+unfolding judge met
+judge-unmet [] ms o a t = absurd t
+judge-unmet (n ∷ ns) ms o a t = go (n .holds) (and-no (n .holds) (met ns) t) (judge-unmet ns ms o (a .1))
+  where
+    go : (b : Bool) → T (not b) ⊎ T (not (met ns)) → (T (not (met ns)) → judge (ns ++ ms) o ≡ (Refused (plain 11) and [])) →
+        cond b (judge (ns ++ ms) o) (Refused (n .refusal) and []) ≡ (Refused (plain 11) and [])
+    go true (inl f) r = absurd f
+    go true (inr f) r = r f
+    go false f r = ap (λ w. Refused w and []) (a .0)
+
+ranges-11 : (c : Setting) (e : Event) → All11 (ranges c e)
+unfolding ranges
+ranges-11 c (OPEN s m) = (refl, (refl, tt))
+ranges-11 c (CLOSE s) = (refl, tt)
+ranges-11 c (CLOCK m p t) = (refl, (refl, (refl, tt)))
+ranges-11 c (GET s k) = (refl, (refl, tt))
+ranges-11 c (PUT s k q l) = (refl, (refl, (refl, (refl, tt))))
+ranges-11 c (BEGIN s p ks) = (refl, (refl, (refl, (refl, tt))))
+ranges-11 c (READ s k) = (refl, (refl, tt))
+ranges-11 c (END s) = (refl, tt)
+ranges-11 c (BEAT m p) = (refl, (refl, tt))
+ranges-11 c (DELIVER i m p) = (refl, (refl, (refl, tt)))
+
+-- ---- a step, where its ranges are met and where not
+
+abbrev metBy : State → Event → Bool
+metBy S e = met (ranges (S .net .setting) e)
+
+step-met : (S : State) (e : Event) → T (metBy S e) → step S e ≡ answered S e
+unfolding step decide answered
+step-met S e t = judge-met (ranges (view S e .setting) e) (needs (view S e) e) (serve (view S e) e) (subst (λ c. T (met (ranges c e))) (sym (view-setting S e)) t)
+
+step-unmet : (S : State) (e : Event) → T (not (metBy S e)) → step S e ≡ (Refused (plain 11) and [])
+unfolding step decide
+step-unmet S e t =
+    judge-unmet (ranges (view S e .setting) e) (needs (view S e) e) (serve (view S e) e) (ranges-11 (view S e .setting) e) (subst (λ c. T (not (met (ranges c e)))) (sym (view-setting S e)) t)
+
+-- ---- the code's tests
+
+-- what the test of an event's fields says, by the table's own numbers
+abbrev pub fieldsTest : (table event : List ℕ) → Bool
+fieldsTest t e = unusedZero e && met (ranges (settingIn t) (eventOf e))
+
+pub code-unlawful : (t e : List ℕ) → T (not (codeLawful e)) → stepOn t e ≡ refused 10 t
+unfolding stepOn
+code-unlawful t e n = cond-not (codeLawful e) _ _ n
+
+pub fields-unlawful : (t e : List ℕ) → T (codeLawful e) → T (not (fieldsTest t e)) → stepOn t e ≡ refused 11 t
+unfolding stepOn putChanges
+fields-unlawful t e l n = cond-yes (codeLawful e) _ _ l ∙ go (and-no (unusedZero e) (met (ranges (settingIn t) (eventOf e))) n)
+  where
+    o : Outcome
+    o = step (decode t) (eventOf e)
+
+    go : T (not (unusedZero e)) ⊎ T (not (met (ranges (settingIn t) (eventOf e)))) → cond (unusedZero e) (gives (o .says) (putChanges (o .changes) t)) (refused 11 t) ≡ refused 11 t
+    go (inl u) = cond-not (unusedZero e) _ _ u
+    go (inr u) = ap (λ r. cond (unusedZero e) (gives (r .says) (putChanges (r .changes) t)) (refused 11 t)) (step-unmet (decode t) (eventOf e) (unfold decode in u)) ∙ cond-same (unusedZero e) (refused 11 t)
+
+pub fields-lawful-step : (t e : List ℕ) → T (codeLawful e) → T (fieldsTest t e) →
+    stepOn t e ≡ gives (answered (decode t) (eventOf e) .says) (putChanges (answered (decode t) (eventOf e) .changes) t)
+unfolding stepOn
+fields-lawful-step t e l f =
+    let k = and-yes (unusedZero e) (met (ranges (settingIn t) (eventOf e))) f in
+    cond-yes (codeLawful e) _ _ l ∙ cond-yes (unusedZero e) _ _ (k .0)
+    ∙ ap (λ r. gives (r .says) (putChanges (r .changes) t)) (step-met (decode t) (eventOf e) (unfold decode in k .1))

@@ -1,0 +1,2 @@
+-- What a step on a well-formed table gives.
+pub mod Step

@@ -1,0 +1,34 @@
+-- A call's answer and the table's bytes afterwards, and a step on a well-formed table: 10, 11 for what is not used, then the protocol's. Assumes
+-- nothing.
+use Prim.Native.Nat.{ℕ}
+use mathlib.Core.Bool.{Bool, cond}
+use mathlib.Core.List.{List}
+use Rattle.protocol.specs.declared.Answer.{Answer}
+use Rattle.protocol.specs.declared.Answer.the-variants.{Refused}
+use Rattle.protocol.specs.Event.{plain}
+use Rattle.protocol.specs.Step.{step}
+use Rattle.table.specs.Decode.{decode}
+use Rattle.table.specs.Put.{putChanges}
+use Rattle.event.specs.Event.{codeLawful, eventOf}
+use Rattle.event.specs.Fields.{unusedZero}
+
+pub record Called : Type 0 where
+  pub answer : Answer
+  pub table : List ℕ
+
+abbrev pub gives : Answer → List ℕ → Called
+gives a t = record { answer = a; table = t }
+
+-- refused with the number, and no byte changes
+abbrev pub refused : ℕ → List ℕ → Called
+refused n t = gives (Refused (plain n)) t
+
+-- the test holds, or the call is refused with the number
+abbrev pub need : Bool → ℕ → List ℕ → Called → Called
+need b n t r = cond b r (refused n t)
+
+-- an event of 32 bytes on a well-formed table
+unfoldable pub stepOn : (table event : List ℕ) → Called
+stepOn t e =
+    let o = step (decode t) (eventOf e) in
+    need (codeLawful e) 10 t (need (unusedZero e) 11 t (gives (o .says) (putChanges (o .changes) t)))
