@@ -6,3 +6,5 @@ pub mod Whole
 pub mod Raised
 pub mod Room
 pub mod Times
+pub mod Put
+pub mod Deliver
