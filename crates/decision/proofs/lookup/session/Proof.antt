@@ -43,11 +43,9 @@ returns c =
     let s = c .before .before .before in
     let a = s .args in
     let t = a .t .now in
-    let told = c .load .ensures ∙ ap sessionIn (sym (session-lent t (a .s) (s .pre .2))) in (
-      told,
-      subst (λ n. n ≤ 8) (sym (count-told (c .load .result) (sessionOf t (a .s)) told)) (session-marks t (s .pre .1) (a .s) (s .pre .2)),
-      λ o. here-told (c .load .result) t (s .pre .1) (a .s) (s .pre .2) told o,
-    )
+    let told = c .load .ensures ∙ ap sessionIn (sym (session-lent t (a .s) (s .pre .2))) in
+    (told, subst (λ n. n ≤ 8) (sym (count-told (c .load .result) (sessionOf t (a .s)) told)) (session-marks t (s .pre .1) (a .s) (s .pre .2)),
+      λ o. here-told (c .load .result) t (s .pre .1) (a .s) (s .pre .2) told o)
 
 pub session-spec : {M : Type 1} → statement M
 session-spec =
