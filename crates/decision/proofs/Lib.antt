@@ -6,3 +6,7 @@ pub mod Nested
 pub mod Backward
 pub mod Raised
 pub mod Ladders
+pub mod Room
+pub mod Times
+pub mod Put
+pub mod Deliver

@@ -13,6 +13,7 @@ pub mod marks;
 pub mod pages;
 pub mod search;
 pub mod sessions;
+pub mod writes;
 
 // What is then carried out. A delivery holds its message, which is numbers; an update's vector and a session stand beside the effect.
 pub enum Effect {

@@ -1,0 +1,32 @@
+-- `decision::writes::stored` meets its contract: the message carries the old vector, and the session has the new one. Assumes nothing.
+use mathlib.Core.Path.{_≡_}
+use native.Mathlib.Omega.{arith}
+use lib.ListN.{length}
+use mir.ValLaws.{toZ-ofZ}
+use mir.Syntax.{w32}
+use Rattle.vector.specs.Vec.{width}
+use Rattle.protocol.specs.State.{opened}
+use Rattle.protocol.specs.Serve.{written}
+use Rattle.table.specs.Values.{messageOf, asSession}
+use Rattle.decision.specs.Decided.{changesOf, outcomeOf}
+use Rattle.decision.proofs.Put.{entry-with}
+use borrow.Author.Needs.{needs}
+use Rattle.decision.proofs.writes.stored.Statement.{statement}
+use Rattle.decision.proofs.writes.stored.Tie as tie
+
+cast-with-entry : tie.Need-cast-with-entry
+cast-with-entry c = search needs
+
+with-entry-requires : tie.Need-with-entry-requires
+with-entry-requires c κs = search needs
+
+returns : tie.Need-returns
+unfolding outcomeOf changesOf messageOf asSession written opened width
+returns c =
+    let s = c .before .before in
+    let x = s .args .x in
+    let four : length (x .vec .e) ≡ width = search needs in
+    rw (toZ-ofZ w32 (s .args .level) (search needs), c .with-entry .ensures, entry-with (x .vec .e) (x .site) (s .args .stamp) four (omega arith))
+
+pub stored-spec : {M : Type 1} → statement M
+stored-spec = tie.close (tie.spec cast-with-entry with-entry-requires returns)

@@ -1,0 +1,17 @@
+-- `decision::writes::taken` meets its contract: the message and its vector are the letter's. Assumes nothing.
+use mathlib.Core.Path.{refl}
+use Rattle.table.specs.Values.{asMessage}
+use Rattle.decision.specs.Decided.{changesOf, outcomeOf}
+use borrow.Author.Needs.{needs}
+use Rattle.decision.proofs.writes.taken.Statement.{statement}
+use Rattle.decision.proofs.writes.taken.Tie as tie
+
+closed-requires : tie.Need-closed-requires
+closed-requires c κs = search needs
+
+returns : tie.Need-returns
+unfolding outcomeOf changesOf asMessage
+returns c = refl
+
+pub taken-spec : {M : Type 1} → statement M
+taken-spec = tie.close (tie.spec closed-requires returns)
