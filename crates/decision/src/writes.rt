@@ -25,6 +25,7 @@ ghost use Rattle.decision.specs.Decided.{outcomeOf, answered};
 use crate::Decided;
 use crate::Effect;
 use crate::answers;
+use crate::keeping;
 use crate::lookup;
 use protocol::Answer;
 use table::Letter;
@@ -104,7 +105,7 @@ fn done(effect: Effect) -> Decided
         answer: Answer::Done,
         effect,
         carried: Vector::ZERO,
-        session: answers::closed(),
+        session: keeping::closed(),
     }
 }
 
@@ -243,7 +244,7 @@ fn taken(i: u8, m: u8, p: u8, x: Letter) -> Decided
             message,
         },
         carried,
-        session: answers::closed(),
+        session: keeping::closed(),
     }
 }
 
