@@ -7,6 +7,7 @@ use mathlib.Core.Bool.{Bool, true, false, cond, not, _&&_}
 use mathlib.Core.List.{List, [], _∷_, _++_}
 use lib.Dec.{T}
 use mir.Facts.{and-yes, and-no}
+use Rattle.codec.specs.Le.{load}
 use Rattle.protocol.specs.Record.{Setting}
 use Rattle.protocol.specs.State.{State}
 use Rattle.protocol.specs.Event.{Event, OPEN, CLOSE, CLOCK, GET, PUT, BEGIN, READ, END, BEAT, DELIVER, plain}
@@ -20,8 +21,15 @@ use Rattle.table.specs.Decode.{settingIn, decode}
 use Rattle.table.specs.Put.{putChanges}
 use Rattle.event.specs.Event.{codeLawful, eventOf, met}
 use Rattle.event.specs.Fields.{unusedZero}
-use Rattle.decision.specs.Decided.{answered}
-use Rattle.steps.specs.Step.{gives, refused, stepOn}
+use Rattle.table.specs.Fits.{FitsAll}
+use Rattle.lawful.proofs.Facts.{formed}
+use Rattle.lawful.proofs.Fits.{step-fits}
+use Rattle.lawful.proofs.Steps.{Sound}
+use Rattle.decision.specs.Decided.{changesOf, outcomeOf, answered}
+use Rattle.decision.specs.declared.Decided.{Decided}
+use Rattle.steps.specs.Waits.{Waits}
+use Rattle.steps.proofs.Waiting.{step-waits}
+use Rattle.steps.specs.Step.{gives, refused, fieldsTest, stepOn}
 
 -- ---- tests that are known
 
@@ -32,6 +40,12 @@ cond-yes false x y t = absurd t
 pub cond-not {ℓ} : {A : Type ℓ} (b : Bool) (x y : A) → T (not b) → cond b x y ≡ y
 cond-not true x y t = absurd t
 cond-not false x y t = refl
+
+pub is-yes : (b : Bool) → b ≡ true → T b
+is-yes b e = rw e tt
+
+pub is-no : (b : Bool) → b ≡ false → T (not b)
+is-no b e = rw e tt
 
 cond-same {ℓ} : {A : Type ℓ} (b : Bool) (x : A) → cond b x x ≡ x
 cond-same true x = refl
@@ -89,9 +103,10 @@ step-unmet S e t =
 
 -- ---- the code's tests
 
--- what the test of an event's fields says, by the table's own numbers
-abbrev pub fieldsTest : (table event : List ℕ) → Bool
-fieldsTest t e = unusedZero e && met (ranges (settingIn t) (eventOf e))
+pub test-by : (t e : List ℕ) (sites parts : ℕ) → sites ≡ load 1 t 0 → parts ≡ load 1 t 1 →
+    (unusedZero e && met (ranges (record { sites = sites; parts = parts }) (eventOf e))) ≡ fieldsTest t e
+unfolding settingIn
+test-by t e sites parts a b = λ i. unusedZero e && met (ranges (record { sites = a i; parts = b i }) (eventOf e))
 
 pub code-unlawful : (t e : List ℕ) → T (not (codeLawful e)) → stepOn t e ≡ refused 10 t
 unfolding stepOn
@@ -115,3 +130,21 @@ fields-lawful-step t e l f =
     let k = and-yes (unusedZero e) (met (ranges (settingIn t) (eventOf e))) f in
     cond-yes (codeLawful e) _ _ l ∙ cond-yes (unusedZero e) _ _ (k .0)
     ∙ ap (λ r. gives (r .says) (putChanges (r .changes) t)) (step-met (decode t) (eventOf e) (unfold decode in k .1))
+
+-- ---- what is decided is carried out
+
+module _ (t e : List ℕ) (d : Decided) (S : Sound t) (l : T (codeLawful e)) (f : T (fieldsTest t e)) (says : outcomeOf d ≡ answered (decode t) (eventOf e)) where
+  decided-step : step (decode t) (eventOf e) ≡ outcomeOf d
+  decided-step = step-met (decode t) (eventOf e) (unfold decode in (and-yes (unusedZero e) (met (ranges (settingIn t) (eventOf e))) f .1)) ∙ sym says
+
+  pub decided-fits : FitsAll (changesOf (d .effect) (d .carried) (d .session)) t
+  unfolding outcomeOf
+  decided-fits = subst (λ o. FitsAll (o .changes) t) decided-step (step-fits t (S .size) (S .bytes) (S .formed) (eventOf e))
+
+  pub decided-waits : Waits (changesOf (d .effect) (d .carried) (d .session)) t
+  unfolding outcomeOf
+  decided-waits = subst (λ o. Waits (o .changes) t) decided-step (step-waits t (formed t (S .formed) .sites) (eventOf e))
+
+  pub decided-gives : stepOn t e ≡ gives (d .answer) (putChanges (changesOf (d .effect) (d .carried) (d .session)) t)
+  unfolding outcomeOf
+  decided-gives = fields-lawful-step t e l f ∙ ap (λ o. gives (o .says) (putChanges (o .changes) t)) (sym says)

@@ -1,3 +1,4 @@
--- What a step on a well-formed table gives, and many of them.
+-- What a step on a well-formed table gives; when a message that a change takes off stands there; and many steps.
 pub mod Step
+pub mod Waits
 pub mod Run

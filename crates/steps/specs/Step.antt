@@ -1,15 +1,16 @@
 -- A call's answer and the table's bytes afterwards, and a step on a well-formed table: 10, 11 for what is not used, then the protocol's. Assumes
 -- nothing.
 use Prim.Native.Nat.{ℕ}
-use mathlib.Core.Bool.{Bool, cond}
+use mathlib.Core.Bool.{Bool, cond, _&&_}
 use mathlib.Core.List.{List}
 use Rattle.protocol.specs.declared.Answer.{Answer}
 use Rattle.protocol.specs.declared.Answer.the-variants.{Refused}
 use Rattle.protocol.specs.Event.{plain}
+use Rattle.protocol.specs.Needs.{ranges}
 use Rattle.protocol.specs.Step.{step}
-use Rattle.table.specs.Decode.{decode}
+use Rattle.table.specs.Decode.{settingIn, decode}
 use Rattle.table.specs.Put.{putChanges}
-use Rattle.event.specs.Event.{codeLawful, eventOf}
+use Rattle.event.specs.Event.{codeLawful, eventOf, met}
 use Rattle.event.specs.Fields.{unusedZero}
 
 pub record Called : Type 0 where
@@ -29,6 +30,10 @@ refused n t = gives (refusedWith n) t
 -- the test holds, or the call is refused with the number
 abbrev pub need : Bool → ℕ → List ℕ → Called → Called
 need b n t r = cond b r (refused n t)
+
+-- what the test of an event's fields says, by the table's own numbers
+abbrev pub fieldsTest : (table event : List ℕ) → Bool
+fieldsTest t e = unusedZero e && met (ranges (settingIn t) (eventOf e))
 
 -- an event of 32 bytes on a well-formed table
 unfoldable pub stepOn : (table event : List ℕ) → Called

@@ -10,7 +10,11 @@ use protocol::Refusal;
 pub fn refused(number: u8) -> Answer
     ensures { λ r. ⌜ r ≡ refusedWith number ⌝ }
 {
-    Answer::Refused(Refusal { number, source: 0, stamp: 0 })
+    Answer::Refused(Refusal {
+        number,
+        source: 0,
+        stamp: 0,
+    })
 }
 
 // The answer's 16 bytes go to `at`.

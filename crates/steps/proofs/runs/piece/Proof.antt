@@ -5,10 +5,6 @@ use Rattle.steps.proofs.Kept.{piece-whole, piece-short}
 use borrow.Author.Needs.{needs}
 use Rattle.steps.proofs.runs.piece.Statement.{statement}
 use Rattle.steps.proofs.runs.piece.Tie as tie
-use Rattle.steps.proofs.runs.piece.Reads as reads
-use Rattle.steps.proofs.runs.piece.Lts as lts
-use Rattle.steps.proofs.pieces.refused.Reads as refused-reads
-use Rattle.steps.proofs.step.Reads as step-reads
 
 step-requires : tie.Need-step-requires
 step-requires c κs = search needs

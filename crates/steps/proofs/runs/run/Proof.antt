@@ -9,9 +9,6 @@ use Rattle.steps.proofs.Kept.{run-none, run-step, turned-sound}
 use borrow.Author.Needs.{needs}
 use Rattle.steps.proofs.runs.run.Statement.{statement}
 use Rattle.steps.proofs.runs.run.Tie as tie
-use Rattle.steps.proofs.runs.run.Reads as reads
-use Rattle.steps.proofs.runs.run.Lts as lts
-use Rattle.steps.proofs.runs.turn.Reads as turn-reads
 
 abbrev Inv-loop : tie.InvT-loop
 Inv-loop t₀ es b₀ n i₀ t b i = (i ≤ n) × Sound t × (length b ≡ length b₀) × (ran t b ≡ runBy pieceCall i t₀ es b₀)
@@ -37,11 +34,12 @@ loop-again : tie.Need-loop-again Inv-loop μ-loop
 loop-again c =
     let k = c .before .before .before .before .turn in
     let l = c .before .before .before .before .before .before .before .before in
-    let a = l .before .before .before .before .args in
-    (omega arith,
-    turned-sound (l .loop .t) (a .es .now) (l .loop .b) (l .loop .i) _ _ (k .ensures) (l .loop .inv .1),
-    omega arith,
-    run-step (a .t .now) (a .es .now) (a .b .now) (l .loop .i) (l .loop .t) (l .loop .b) _ _ (l .loop .inv .3) (k .ensures))
+    let a = l .before .before .before .before .args in (
+      omega arith,
+      turned-sound (l .loop .t) (a .es .now) (l .loop .b) (l .loop .i) _ _ (k .ensures) (l .loop .inv .1),
+      omega arith,
+      run-step (a .t .now) (a .es .now) (a .b .now) (l .loop .i) (l .loop .t) (l .loop .b) _ _ (l .loop .inv .3) (k .ensures),
+    )
 
 same-length : tie.Need-same-length Inv-loop μ-loop
 same-length c = search needs

@@ -3,11 +3,6 @@ use Rattle.steps.proofs.Kept.{cut-piece, turned-by}
 use borrow.Author.Needs.{needs}
 use Rattle.steps.proofs.runs.turn.Statement.{statement}
 use Rattle.steps.proofs.runs.turn.Tie as tie
-use Rattle.steps.proofs.runs.turn.Reads as reads
-use Rattle.steps.proofs.runs.turn.Lts as lts
-use Rattle.steps.proofs.pieces.store_answer.Reads as store-answer-reads
-use Rattle.steps.proofs.runs.at_most_32.Reads as at-most-32-reads
-use Rattle.steps.proofs.runs.piece.Reads as piece-reads
 
 mul-from : tie.Need-mul-from
 mul-from c = search needs
