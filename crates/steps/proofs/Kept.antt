@@ -1,21 +1,23 @@
 -- A piece on a sound table by its length; that it leaves the table sound; and runs, one piece more as the code counts. Assumes nothing.
-use Prim.Native.Nat.{ℕ, _+_, _*_, _-_, min}
+use Prim.Native.Nat.{ℕ, _+_, _*_, _-_, _<_, min}
 use native.Mathlib.Numerals.{add-one}
 use native.Mathlib.Omega.{arith}
 use mathlib.Core.Path.{_≡_, refl, sym, ap, subst, _∙_}
 use mathlib.Core.Logic.{_≢_}
+use mathlib.Core.Bool.{cond}
 use mathlib.Core.List.{List}
 use lib.Dec.{eqb}
 use lib.ListN.{length}
 use borrow.Author.Tests.{eq-eqb, ne-eqb}
 use Rattle.codec.specs.Part.{partOf}
+use Rattle.codec.proofs.Part.{length-part}
 use Rattle.vector.proofs.Tests.{cond-elim}
 use Rattle.protocol.specs.declared.Answer.{Answer}
 use Rattle.lawful.proofs.Steps.{Sound, step-sound}
 use Rattle.event.specs.Event.{codeLawful, eventOf}
 use Rattle.event.specs.Fields.{unusedZero}
-use Rattle.steps.specs.Step.{Called, gives, refused, stepOn}
-use Rattle.steps.specs.Run.{pieceOf, putAnswer, ran, turned, runBy, pieceCall}
+use Rattle.steps.specs.Step.{Called, gives, refusedWith, refused, stepOn}
+use Rattle.steps.specs.Run.{pieceOf, putAnswer, ran, turned, runBy, pieceCall, turnedAway}
 
 module _ (t e : List ℕ) where
   pub piece-whole : length e ≡ 32 → pieceCall t e ≡ stepOn t e
@@ -47,15 +49,27 @@ turned-by i t es b e u w a q c z =
     let d : gives a u ≡ pieceCall t (pieceOf es i) = c ∙ ap (pieceCall t) q in
     ap (ran u) z ∙ ap (λ r. ran (r .table) (putAnswer b (16 * i) (r .answer))) d
 
-module _ (t es b : List ℕ) where
-  pub run-none : ran t b ≡ runBy pieceCall 0 t es b
+-- ---- runs, by any call
+
+module _ (call : (table event : List ℕ) → Called) (t es b : List ℕ) where
+  pub run-none : ran t b ≡ runBy call 0 t es b
   unfolding runBy
   run-none = refl
 
-  pub run-step : (i : ℕ) (u v u′ v′ : List ℕ) → ran u v ≡ runBy pieceCall i t es b → ran u′ v′ ≡ turned pieceCall i u es v → ran u′ v′ ≡ runBy pieceCall (i + 1) t es b
+  pub run-step : (i : ℕ) (u v u′ v′ : List ℕ) → ran u v ≡ runBy call i t es b → ran u′ v′ ≡ turned call i u es v → ran u′ v′ ≡ runBy call (i + 1) t es b
   unfolding runBy
-  run-step i u v u′ v′ r s = rw (add-one i) (s ∙ ap (λ x. turned pieceCall i (x .table) es (x .answers)) r)
+  run-step i u v u′ v′ r s = rw (add-one i) (s ∙ ap (λ x. turned call i (x .table) es (x .answers)) r)
 
-  pub turned-sound : (i : ℕ) (u w : List ℕ) → ran u w ≡ turned pieceCall i t es b → Sound t → Sound u
-  unfolding turned
-  turned-sound i u w r S = subst Sound (sym (ap (λ x. x .table) r)) (piece-keeps t (pieceOf es i) S)
+pub turned-sound : (t es b : List ℕ) (i : ℕ) (u w : List ℕ) → ran u w ≡ turned pieceCall i t es b → Sound t → Sound u
+unfolding turned
+turned-sound t es b i u w r S = subst Sound (sym (ap (λ x. x .table) r)) (piece-keeps t (pieceOf es i) S)
+
+-- ---- a table that is refused
+
+pub away-by : (n i : ℕ) (es b w : List ℕ) (a : Answer) → 32 * i < length es → a ≡ refusedWith (cond (eqb (min 32 (length es - 32 * i)) 32) n 23) → w ≡ putAnswer b (16 * i) a → (t : List ℕ) → ran t w ≡ turned (turnedAway n) i t es b
+unfolding turned turnedAway pieceOf
+away-by n i es b w a h q z t =
+    ap (ran t) (z ∙ ap (putAnswer b (16 * i)) (q ∙ ap (λ k. refusedWith (cond (eqb k 32) n 23)) (sym (length-piece es i h))))
+  where
+    length-piece : (es : List ℕ) (i : ℕ) → 32 * i < length es → length (pieceOf es i) ≡ min 32 (length es - 32 * i)
+    length-piece es i h = length-part (32 * i) (min 32 (length es - 32 * i)) es (omega arith)

@@ -1,6 +1,7 @@
 -- Many events at once, by any call for one of them. The event bytes are taken in pieces of 32, the last as long as it is, and each answer goes into 16
 -- bytes. Assumes nothing.
 use Prim.Native.Nat.{ℕ, zero, suc, _+_, _*_, _-_, min}
+use mathlib.Core.Bool.{cond}
 use mathlib.Core.List.{List}
 use lib.Dec.{eqb}
 use lib.ListN.{length}
@@ -9,7 +10,7 @@ use Rattle.codec.specs.Level.{bitsOf}
 use Rattle.codec.specs.Part.{partOf}
 use Rattle.protocol.specs.declared.Answer.{Answer}
 use Rattle.protocol.specs.Event.{numberOf, sourceOf, qualityOf, levelOf, stampOf}
-use Rattle.steps.specs.Step.{Called, need, stepOn}
+use Rattle.steps.specs.Step.{Called, refused, need, stepOn}
 
 -- piece i of the event bytes
 unfoldable pub pieceOf : List ℕ → ℕ → List ℕ
@@ -39,3 +40,7 @@ runBy call (suc n) t es b = let r = runBy call n t es b in turned call n (r .tab
 -- a piece on a well-formed table
 unfoldable pub pieceCall : (table event : List ℕ) → Called
 pieceCall t e = need (eqb (length e) 32) 23 t (stepOn t e)
+
+-- a piece on a table that is refused with the number
+unfoldable pub turnedAway : ℕ → (table event : List ℕ) → Called
+turnedAway n t e = refused (cond (eqb (length e) 32) n 23) t

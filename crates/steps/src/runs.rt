@@ -1,11 +1,13 @@
 // Many events on a table known to be well formed: it stays so, so it is not checked again. In order: one piece, and all. Assumes nothing.
 ghost use mathlib.Core.Path.{_≡_};
-ghost use Prim.Native.Nat.{_+_, _*_, min, _≤_, _<_};
-ghost use lib.Dec.{T};
+ghost use Prim.Native.Nat.{ℕ, _+_, _*_, min, _≤_, _<_};
+ghost use mathlib.Core.Bool.{cond};
+ghost use mathlib.Core.List.{List};
+ghost use lib.Dec.{T, eqb};
 ghost use lib.ListN.{length};
 ghost use Rattle.lawful.specs.WellFormed.{wellFormed};
 ghost use Rattle.steps.specs.Step.{gives};
-ghost use Rattle.steps.specs.Run.{ran, turned, pieceCall, runBy};
+ghost use Rattle.steps.specs.Run.{ran, turned, runBy, pieceCall, turnedAway};
 use crate::pieces;
 use protocol::Answer;
 
@@ -46,6 +48,35 @@ pub fn run(t: &mut [u8], es: &[u8], b: &mut [u8], n: usize)
     let mut i = 0;
     while i < n {
         turn(t, es, b, i);
+        i += 1;
+    }
+}
+
+// The number for a piece of a table that is refused with it.
+fn number_for(size: usize, number: u8) -> u8
+    ensures { λ r. ⌜ r ≡ cond (eqb size 32) number 23 ⌝ }
+{
+    if size == 32 { number } else { 23 }
+}
+
+// Piece i of a table that is refused with the number.
+pub fn turn_away(es: &[u8], b: &mut [u8], i: usize, number: u8)
+    requires { ⌜ (32 * i < length (now es)) × (16 * i + 16 ≤ length (now b)) ⌝ }
+    ensures { λ _. ⌜ ((t : List ℕ) → ran t (now (b .exit)) ≡ turned (turnedAway number) i t (now (es .entry)) (now (b .entry))) ⌝ }
+{
+    let size = at_most_32(es.len() - 32 * i);
+    let a = pieces::refused(number_for(size, number));
+    pieces::store_answer(b, 16 * i, a);
+}
+
+// The first n pieces of a table that is refused with the number.
+pub fn turn_all_away(es: &[u8], b: &mut [u8], n: usize, number: u8)
+    requires { ⌜ (32 * n < length (now es) + 32) × (16 * n ≤ length (now b)) ⌝ }
+    ensures { λ _. ⌜ ((t : List ℕ) → ran t (now (b .exit)) ≡ runBy (turnedAway number) n t (now (es .entry)) (now (b .entry))) ⌝ }
+{
+    let mut i = 0;
+    while i < n {
+        turn_away(es, b, i, number);
         i += 1;
     }
 }

@@ -19,7 +19,7 @@ abbrev μ-loop : tie.MeasureT-loop
 loop-holds : tie.Need-loop-holds Inv-loop μ-loop
 loop-holds c =
     let a = c .before .before .before .args in
-    (omega arith, record { size = search needs; bytes = c .before .before .slice-known .given; formed = search needs }, refl, run-none (a .t .now) (a .es .now) (a .b .now))
+    (omega arith, record { size = search needs; bytes = c .before .before .slice-known .given; formed = search needs }, refl, run-none pieceCall (a .t .now) (a .es .now) (a .b .now))
 
 turn-requires : tie.Need-turn-requires Inv-loop μ-loop
 turn-requires c κs = search needs
@@ -38,7 +38,7 @@ loop-again c =
       omega arith,
       turned-sound (l .loop .t) (a .es .now) (l .loop .b) (l .loop .i) _ _ (k .ensures) (l .loop .inv .1),
       omega arith,
-      run-step (a .t .now) (a .es .now) (a .b .now) (l .loop .i) (l .loop .t) (l .loop .b) _ _ (l .loop .inv .3) (k .ensures),
+      run-step pieceCall (a .t .now) (a .es .now) (a .b .now) (l .loop .i) (l .loop .t) (l .loop .b) _ _ (l .loop .inv .3) (k .ensures),
     )
 
 same-length : tie.Need-same-length Inv-loop μ-loop
