@@ -1,10 +1,10 @@
 -- What the public calls give, by the tests of their code. Assumes nothing.
-use Prim.Native.Nat.{ℕ}
-use mathlib.Core.Path.{_≡_}
+use Prim.Native.Nat.{ℕ, zero, suc, _*_}
+use mathlib.Core.Path.{_≡_, refl, ap, _∙_}
 use mathlib.Core.Logic.{_≢_}
-use mathlib.Core.Bool.{true, false, _&&_}
+use mathlib.Core.Bool.{Bool, true, false, cond}
 use mathlib.Core.List.{List}
-use lib.Dec.{eqb}
+use lib.Dec.{T, eqb}
 use lib.ListN.{length, replicate}
 use borrow.Author.Tests.{eq-eqb, ne-eqb}
 use Rattle.codec.specs.Le.{put}
@@ -12,7 +12,10 @@ use Rattle.protocol.specs.declared.Answer.the-variants.{Done}
 use Rattle.table.specs.Put.{fresh}
 use Rattle.lawful.specs.Values.{settingLawful}
 use Rattle.lawful.specs.WellFormed.{wellFormed}
-use Rattle.steps.specs.Step.{gives, refused, stepOn}
+use Rattle.lawful.proofs.Steps.{Sound}
+use Rattle.steps.specs.Step.{Called, gives, refused, stepOn}
+use Rattle.steps.specs.Run.{pieceOf, putAnswer, ran, turned, runBy, pieceCall, turnedAway}
+use Rattle.steps.proofs.Kept.{piece-keeps}
 use Rattle.archive.specs.Call.{stepCall, setupCall}
 
 -- ---- setup
@@ -34,15 +37,71 @@ module _ (t : List ℕ) (sites parts : ℕ) where
 -- ---- step
 
 module _ (t e : List ℕ) where
-  pub step-23 : (eqb (length t) 57344 && eqb (length e) 32) ≡ false → stepCall t e ≡ refused 23 t
+  pub step-no-table : length t ≢ 57344 → stepCall t e ≡ refused 23 t
   unfolding stepCall
-  step-23 d = rw d
+  step-no-table d = rw (ne-eqb (length t) 57344 d)
 
-  module _ (long : (eqb (length t) 57344 && eqb (length e) 32) ≡ true) where
-    pub step-24 : wellFormed t ≡ false → stepCall t e ≡ refused 24 t
+  module _ (long : length t ≡ 57344) where
+    pub step-no-event : length e ≢ 32 → stepCall t e ≡ refused 23 t
     unfolding stepCall
-    step-24 w = rw (long, w)
+    step-no-event d = rw (eq-eqb (length t) 57344 long, ne-eqb (length e) 32 d)
 
-    pub step-formed : wellFormed t ≡ true → stepCall t e ≡ stepOn t e
+    pub step-ill : length e ≡ 32 → wellFormed t ≡ false → stepCall t e ≡ refused 24 t
     unfolding stepCall
-    step-formed w = rw (long, w)
+    step-ill l w = rw (eq-eqb (length t) 57344 long, eq-eqb (length e) 32 l, w)
+
+    pub step-formed : length e ≡ 32 → wellFormed t ≡ true → stepCall t e ≡ stepOn t e
+    unfolding stepCall
+    step-formed l w = rw (eq-eqb (length t) 57344 long, eq-eqb (length e) 32 l, w)
+
+    -- a piece of any length
+    piece-ill : wellFormed t ≡ false → stepCall t e ≡ turnedAway 24 t e
+    unfolding stepCall turnedAway
+    piece-ill w = rw (eq-eqb (length t) 57344 long, w) (go (eqb (length e) 32))
+      where
+        go : (b : Bool) → cond b (refused 24 t) (refused 23 t) ≡ refused (cond b 24 23) t
+        go true = refl
+        go false = refl
+
+    piece-formed : wellFormed t ≡ true → stepCall t e ≡ pieceCall t e
+    unfolding stepCall pieceCall
+    piece-formed w = rw (eq-eqb (length t) 57344 long, w)
+
+  piece-no-table : length t ≢ 57344 → stepCall t e ≡ turnedAway 23 t e
+  unfolding turnedAway
+  piece-no-table d = step-no-table d ∙ go (eqb (length e) 32)
+    where
+      go : (b : Bool) → refused 23 t ≡ refused (cond b 23 23) t
+      go true = refl
+      go false = refl
+
+-- ---- run
+
+-- two calls that agree where P holds, which the second keeps, run alike
+same-runs : (f g : (table event : List ℕ) → Called) (P : List ℕ → Type 0) → ((t e : List ℕ) → P t → f t e ≡ g t e) → ((t e : List ℕ) → P t → P (g t e .table)) →
+    (t es b : List ℕ) → P t → (n : ℕ) → (runBy f n t es b ≡ runBy g n t es b) × P (runBy g n t es b .table)
+unfolding runBy turned
+same-runs f g P same keeps t es b p zero = (refl, p)
+same-runs f g P same keeps t es b p (suc n) =
+    let r = same-runs f g P same keeps t es b p n in
+    let u = runBy g n t es b in
+    (ap (λ x. turned f n (x .table) es (x .answers)) (r .0) ∙ ap (λ c. ran (c .table) (putAnswer (u .answers) (16 * n) (c .answer))) (same (u .table) (pieceOf es n) (r .1)), keeps (u .table) (pieceOf es n) (r .1))
+
+module _ (t es b : List ℕ) (n : ℕ) where
+  -- a table that is refused stays as it is
+  away-runs : (k : ℕ) → ((e : List ℕ) → stepCall t e ≡ turnedAway k t e) → runBy stepCall n t es b ≡ runBy (turnedAway k) n t es b
+  unfolding turnedAway
+  away-runs k same = same-runs stepCall (turnedAway k) (λ u. u ≡ t) (λ u e q. rw q (same e)) (λ u e q. q) t es b refl n .0
+
+  pub run-no-table : length t ≢ 57344 → runBy stepCall n t es b ≡ runBy (turnedAway 23) n t es b
+  run-no-table d = away-runs 23 (λ e. piece-no-table t e d)
+
+  pub run-ill : length t ≡ 57344 → wellFormed t ≡ false → runBy stepCall n t es b ≡ runBy (turnedAway 24) n t es b
+  run-ill l w = away-runs 24 (λ e. piece-ill t e l w)
+
+  pub run-formed : Sound t → runBy stepCall n t es b ≡ runBy pieceCall n t es b
+  run-formed S = same-runs stepCall pieceCall Sound (λ u e R. piece-formed u e (R .size) (yes-is (wellFormed u) (R .formed))) (λ u e R. piece-keeps u e R) t es b S n .0
+    where
+      yes-is : (c : Bool) → T c → c ≡ true
+      yes-is true h = refl
+      yes-is false h = absurd h

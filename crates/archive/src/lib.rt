@@ -1,21 +1,17 @@
 // The level archive over one lent table of 57,344 bytes, for any event bytes and any table: no function here requires anything. Each states its answer
-// and the table's bytes afterwards as one equation. Assumes nothing.
+// and the bytes afterwards as one equation. In order: setup, a step, many steps; `port` has them for callers in C and Rust. Assumes nothing.
 ghost use mathlib.Core.Path.{_≡_};
+ghost use Prim.Native.Nat.{_+_, _/_, min};
 ghost use lib.ListN.{length, replicate};
-ghost use Rattle.steps.specs.Step.{gives, refusedWith};
-ghost use Rattle.archive.specs.Call.{setupCall};
+ghost use Rattle.steps.specs.Step.{gives};
+ghost use Rattle.steps.specs.Run.{ran};
+ghost use Rattle.archive.specs.Call.{setupCall, stepCall};
+ghost use Rattle.archive.specs.Run.{piecesOf, runCall};
 use protocol::Answer;
-use protocol::Refusal;
+use steps::pieces;
+use steps::runs;
 
-fn refused(number: u8) -> Answer
-    ensures { λ r. ⌜ r ≡ refusedWith number ⌝ }
-{
-    Answer::Refused(Refusal {
-        number,
-        source: 0,
-        stamp: 0,
-    })
-}
+pub mod port;
 
 fn clear(t: &mut [u8])
     ensures { λ _. ⌜ now (t .exit) ≡ replicate (length (now (t .entry))) 0 ⌝ }
@@ -32,14 +28,60 @@ pub fn setup(table: &mut [u8], sites: u32, parts: u32) -> Answer
     ensures { λ r. ⌜ gives r (now (table .exit)) ≡ setupCall (now (table .entry)) sites parts ⌝ }
 {
     if table.len() != 57344 {
-        return refused(23);
+        return pieces::refused(23);
     }
     let lawful = ((0 < sites) & (sites <= 4)) & ((0 < parts) & (parts <= 4));
     if !lawful {
-        return refused(11);
+        return pieces::refused(11);
     }
     clear(table);
     codec::store_le(table, 0, 1, sites as u64);
     codec::store_le(table, 1, 1, parts as u64);
     Answer::Done
+}
+
+// One event. The whole table is checked first; `run` checks it once for many.
+pub fn step(table: &mut [u8], event: &[u8]) -> Answer
+    ensures { λ r. ⌜ gives r (now (table .exit)) ≡ stepCall (now (table .entry)) (now (event .entry)) ⌝ }
+{
+    if table.len() != 57344 {
+        return pieces::refused(23);
+    }
+    if event.len() != 32 {
+        return pieces::refused(23);
+    }
+    if !lawful::well_formed(table) {
+        return pieces::refused(24);
+    }
+    steps::step(table, event)
+}
+
+// How many pieces of 32 bytes there are, the last as long as it is, for which there is room for answers of 16 bytes.
+fn pieces_for(events: usize, answers: usize) -> usize
+    ensures { λ r. ⌜ r ≡ min ((events + 31) / 32) (answers / 16) ⌝ }
+{
+    let whole = events / 32;
+    let room = answers / 16;
+    if whole < room {
+        if events % 32 == 0 { whole } else { whole + 1 }
+    } else {
+        room
+    }
+}
+
+// Many events: what `step` gives one by one, with each answer in 16 bytes. The number of events that were answered is given back.
+pub fn run(table: &mut [u8], events: &[u8], answers: &mut [u8]) -> usize
+    ensures { λ r. ⌜ (r ≡ piecesOf (now (events .entry)) (now (answers .entry))) × (ran (now (table .exit)) (now (answers .exit)) ≡ runCall (now (table .entry)) (now (events .entry)) (now (answers .entry))) ⌝ }
+{
+    let n = pieces_for(events.len(), answers.len());
+    if table.len() != 57344 {
+        runs::turn_all_away(events, answers, n, 23);
+        return n;
+    }
+    if !lawful::well_formed(table) {
+        runs::turn_all_away(events, answers, n, 24);
+        return n;
+    }
+    runs::run(table, events, answers, n);
+    n
 }

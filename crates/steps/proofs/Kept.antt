@@ -34,7 +34,7 @@ module _ (t e : List ℕ) where
       cond-elim (λ (c : Called). Sound (c .table)) (codeLawful e)
       (λ a. cond-elim (λ (c : Called). Sound (c .table)) (unusedZero e) (λ b. step-sound t S (eventOf e)) (λ b. S)) (λ a. S)
 
-  piece-keeps : Sound t → Sound (pieceCall t e .table)
+  pub piece-keeps : Sound t → Sound (pieceCall t e .table)
   unfolding pieceCall
   piece-keeps S = cond-elim (λ (c : Called). Sound (c .table)) (eqb (length e) 32) (λ a. step-keeps S) (λ a. S)
 

@@ -1,7 +1,6 @@
 -- `archive::setup` meets its contract: the tests by `setup-23`, `setup-11` and `setup-done`, the bytes by what `clear` and the two stores ensure.
 -- Assumes nothing.
-use mathlib.Core.Path.{_≡_, sym, ap, _∙_}
-use mathlib.Core.Bool.{true, false}
+use mathlib.Core.Path.{sym, ap, _∙_}
 use borrow.Author.Needs.{needs}
 use borrow.Author.Tests.{not-true, not-false}
 use Rattle.protocol.specs.declared.Answer.the-variants.{Done}
@@ -10,11 +9,6 @@ use Rattle.steps.specs.Step.{gives}
 use Rattle.archive.proofs.Calls.{setup-23, setup-11, setup-done}
 use Rattle.archive.proofs.setup.Statement.{statement}
 use Rattle.archive.proofs.setup.Tie as tie
-use Rattle.archive.proofs.setup.Reads as reads
-use Rattle.archive.proofs.setup.Lts as lts
-use Rattle.archive.proofs.clear.Reads as clear-reads
-use Rattle.archive.proofs.refused.Reads as refused-reads
-use Rattle.codec.proofs.store_le.Reads as store-le-reads
 
 refused-requires : tie.Need-refused-requires
 refused-requires c κs = search needs

@@ -2,8 +2,6 @@
 use borrow.Author.Tests.{eq-eqb, ne-eqb}
 use Rattle.steps.proofs.runs.number_for.Statement.{statement}
 use Rattle.steps.proofs.runs.number_for.Tie as tie
-use Rattle.steps.proofs.runs.number_for.Reads as reads
-use Rattle.steps.proofs.runs.number_for.Lts as lts
 
 returns : tie.Need-returns
 returns c = rw (eq-eqb _ 32 (c .if1 .taken))

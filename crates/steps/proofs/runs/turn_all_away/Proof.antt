@@ -9,9 +9,6 @@ use Rattle.steps.proofs.Kept.{run-none, run-step}
 use borrow.Author.Needs.{needs}
 use Rattle.steps.proofs.runs.turn_all_away.Statement.{statement}
 use Rattle.steps.proofs.runs.turn_all_away.Tie as tie
-use Rattle.steps.proofs.runs.turn_all_away.Reads as reads
-use Rattle.steps.proofs.runs.turn_all_away.Lts as lts
-use Rattle.steps.proofs.runs.turn_away.Reads as turn-away-reads
 
 abbrev Inv-loop : tie.InvT-loop
 Inv-loop es b₀ n number i₀ b i = (i ≤ n) × (length b ≡ length b₀) × ((t : List ℕ) → ran t b ≡ runBy (turnedAway number) i t es b₀)

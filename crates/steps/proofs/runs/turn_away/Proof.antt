@@ -7,12 +7,6 @@ use Rattle.steps.proofs.Kept.{away-by}
 use borrow.Author.Needs.{needs}
 use Rattle.steps.proofs.runs.turn_away.Statement.{statement}
 use Rattle.steps.proofs.runs.turn_away.Tie as tie
-use Rattle.steps.proofs.runs.turn_away.Reads as reads
-use Rattle.steps.proofs.runs.turn_away.Lts as lts
-use Rattle.steps.proofs.pieces.refused.Reads as refused-reads
-use Rattle.steps.proofs.pieces.store_answer.Reads as store-answer-reads
-use Rattle.steps.proofs.runs.at_most_32.Reads as at-most-32-reads
-use Rattle.steps.proofs.runs.number_for.Reads as number-for-reads
 
 mul-at-most-32 : tie.Need-mul-at-most-32
 mul-at-most-32 c = search needs

@@ -1,0 +1,23 @@
+-- `archive::port::level_archive_step` meets its contract, by what `step` ensures. Assumes nothing.
+use mathlib.Core.Path.{ap, _∙_}
+use Rattle.archive.specs.Port.{shows, shown}
+use borrow.Author.Needs.{needs}
+use Rattle.archive.proofs.port.level_archive_step.Statement.{statement}
+use Rattle.archive.proofs.port.level_archive_step.Tie as tie
+
+step-requires : tie.Need-step-requires
+step-requires c κs = search needs
+
+told-requires : tie.Need-told-requires
+told-requires c κs = search needs
+
+same-length : tie.Need-same-length
+same-length c = search needs
+
+returns : tie.Need-returns
+returns c =
+    let s = c .before .before .before .step in
+    ap (λ v. shows v (s .last .0)) (c .told .ensures) ∙ ap shown (s .ensures)
+
+pub level-archive-step-spec : {M : Type 1} → statement M
+level-archive-step-spec = tie.close (tie.spec step-requires told-requires same-length returns)
