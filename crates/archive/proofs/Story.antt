@@ -1,5 +1,5 @@
--- The theorems carried to the bytes. In order: what a table that setup and steps have led to is (`Reached`), one call of `step` on it, any list of event
--- byte strings as a list of the protocol's events, and the promises. Assumes nothing.
+-- The theorems carried to the bytes. In order: one call of `step` on a sound table (of the right length and well formed), any list of event byte strings
+-- as a list of the protocol's events, from setup, and the promises. Assumes nothing.
 use Prim.Native.Nat.{ℕ, _+_, _≤_}
 use native.Mathlib.Nat.{zero-add}
 use native.Mathlib.Omega.{arith}
@@ -7,10 +7,9 @@ use mathlib.Core.Path.{_≡_, refl, sym, ap, ap₂, subst, _∙_}
 use mathlib.Core.Logic.{_≢_}
 use mathlib.Core.Bool.{Bool, true, false, cond, not, _&&_}
 use mathlib.Core.List.{List, [], _∷_}
-use lib.Dec.{T, eqb, ltb, leb}
+use lib.Dec.{T, eqb}
 use lib.ListN.{length}
-use mir.Facts.{T-not, and-yes, yes-and, leb-yes}
-use Rattle.codec.specs.Le.{Bytes}
+use mir.Facts.{T-not, and-yes, yes-and}
 use Rattle.vector.specs.Vec.{width}
 use Rattle.vector.proofs.Tests.{cond-elim, yes-eqb}
 use Rattle.protocol.specs.Record.{Setting}
@@ -55,7 +54,7 @@ and-unknown false b t = refl
 abbrev stepped : List ℕ → List ℕ → Called
 stepped t e = gives (step (decode t) (eventOf e) .says) (putChanges (step (decode t) (eventOf e) .changes) t)
 
-step-event : (t e : List ℕ) → Sound t → T (isEvent e) → stepCall t e ≡ stepped t e
+pub step-event : (t e : List ℕ) → Sound t → T (isEvent e) → stepCall t e ≡ stepped t e
 unfolding stepCall stepOn isEvent
 step-event t e R i =
     let a = and-yes (eqb (length e) 32) (codeLawful e && unusedZero e) i in
@@ -87,8 +86,8 @@ step-other t e R i =
     (λ w. absurd (T-not (wellFormed t) (R .formed) w)))
     (λ a. turned-by t 23 (omega arith))
 
-step-sound : (t e : List ℕ) → Sound t → Sound (stepCall t e .table)
-step-sound t e R = go (isEvent e) (λ i. i) (λ i. i)
+pub call-sound : (t e : List ℕ) → Sound t → Sound (stepCall t e .table)
+call-sound t e R = go (isEvent e) (λ i. i) (λ i. i)
   where
     go : (b : Bool) → (T b → T (isEvent e)) → (T (not b) → T (not (isEvent e))) → Sound (stepCall t e .table)
     go true f g = rw (step-event t e R (f tt)) (step-sound t R (eventOf e))
@@ -96,24 +95,24 @@ step-sound t e R = go (isEvent e) (λ i. i) (λ i. i)
 
 -- ---- many calls: the protocol's events among the byte strings
 
-eventsOf : List (List ℕ) → List Event
+unfoldable pub eventsOf : List (List ℕ) → List Event
 eventsOf [] = []
 eventsOf (e ∷ es) = cond (isEvent e) (eventOf e ∷ eventsOf es) (eventsOf es)
 
-after-sound : (t : List ℕ) (es : List (List ℕ)) → Sound t → Sound (tableAfter t es)
+pub after-sound : (t : List ℕ) (es : List (List ℕ)) → Sound t → Sound (tableAfter t es)
 unfolding tableAfter
 after-sound t [] R = R
-after-sound t (e ∷ es) R = after-sound (stepCall t e .table) es (step-sound t e R)
+after-sound t (e ∷ es) R = after-sound (stepCall t e .table) es (call-sound t e R)
 
-decode-step : (t e : List ℕ) → Sound t → T (isEvent e) → decode (stepCall t e .table) ≡ next (decode t) (eventOf e)
+pub decode-step : (t e : List ℕ) → Sound t → T (isEvent e) → decode (stepCall t e .table) ≡ next (decode t) (eventOf e)
 unfolding next
 decode-step t e R i = ap (λ c. decode (c .table)) (step-event t e R i) ∙ step-says t R (eventOf e)
 
 -- what is told of a run over bytes, and of the protocol's run
-record Told (t : List ℕ) (es : List (List ℕ)) (S : State) : Type 1 where
-  state : decode (tableAfter t es) ≡ after S (eventsOf es)
-  lines : linesOf t es ≡ log S (eventsOf es)
-  counts : (kind : Net → Event → Answer → Bool) → countOf kind t es ≡ count kind S (eventsOf es)
+pub record Told (t : List ℕ) (es : List (List ℕ)) (S : State) : Type 1 where
+  pub state : decode (tableAfter t es) ≡ after S (eventsOf es)
+  pub lines : linesOf t es ≡ log S (eventsOf es)
+  pub counts : (kind : Net → Event → Answer → Bool) → countOf kind t es ≡ count kind S (eventsOf es)
 
 told-event : (t e : List ℕ) (es : List (List ℕ)) → Sound t → T (isEvent e) → Told (stepCall t e .table) es (decode (stepCall t e .table)) → Told t (e ∷ es) (decode t)
 unfolding tableAfter linesOf countOf after log count eventsOf
@@ -156,10 +155,10 @@ told-other t e es R i I = record {
     E : cond (isEvent e) (eventOf e ∷ eventsOf es) (eventsOf es) ≡ eventsOf es
     E = cond-not (isEvent e) _ _ i
 
-told : (t : List ℕ) (es : List (List ℕ)) → Sound t → Told t es (decode t)
+pub told : (t : List ℕ) (es : List (List ℕ)) → Sound t → Told t es (decode t)
 unfolding tableAfter linesOf countOf after log count eventsOf
 told t [] R = record { state = refl; lines = refl; counts = λ kind. refl }
-told t (e ∷ es) R = go (isEvent e) (λ i. i) (λ i. i) (told (stepCall t e .table) es (step-sound t e R))
+told t (e ∷ es) R = go (isEvent e) (λ i. i) (λ i. i) (told (stepCall t e .table) es (call-sound t e R))
   where
     go : (b : Bool) → (T b → T (isEvent e)) → (T (not b) → T (not (isEvent e))) → Told (stepCall t e .table) es (decode (stepCall t e .table)) → Told t (e ∷ es) (decode t)
     go true f g I = told-event t e es R (f tt) I
@@ -172,17 +171,17 @@ module _ (c : Setting) (l : T (settingLawful c)) (t : List ℕ) (long : length t
   unfolding setupCall
   set-up = ap (λ r. r .table) (cond-yes (eqb (length t) tableLength) _ (refused 23 t) (yes-eqb (length t) tableLength long) ∙ cond-yes (settingLawful c) _ (refused 11 t) l)
 
-  fresh-sound : Sound (setUp c t)
-  fresh-sound = rw set-up (fresh-sound c l)
+  setUp-sound : Sound (setUp c t)
+  setUp-sound = rw set-up (fresh-sound c l)
 
   decode-setUp : decode (setUp c t) ≡ setup c
   decode-setUp = ap decode set-up ∙ fresh-says c l
 
   run-told : (es : List (List ℕ)) → Told (setUp c t) es (setup c)
-  run-told es = subst (Told (setUp c t) es) decode-setUp (told (setUp c t) es fresh-sound)
+  run-told es = subst (Told (setUp c t) es) decode-setUp (told (setUp c t) es setUp-sound)
 
   run-sound : (es : List (List ℕ)) → Sound (tableAfter (setUp c t) es)
-  run-sound es = after-sound (setUp c t) es fresh-sound
+  run-sound es = after-sound (setUp c t) es setUp-sound
 
   few : c .sites ≤ width
   unfolding width

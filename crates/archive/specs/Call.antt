@@ -5,12 +5,18 @@ use mathlib.Core.List.{List}
 use lib.Dec.{eqb}
 use lib.ListN.{length}
 use Rattle.protocol.specs.Record.{Setting}
-use Rattle.protocol.specs.declared.Answer.the-variants.{Done}
+use Rattle.protocol.specs.Event.{plain}
+use Rattle.protocol.specs.declared.Answer.{Answer}
+use Rattle.protocol.specs.declared.Answer.the-variants.{Done, Refused}
 use Rattle.table.specs.Parts.{tableLength}
 use Rattle.table.specs.Put.{fresh}
 use Rattle.lawful.specs.Values.{settingLawful}
 use Rattle.lawful.specs.WellFormed.{wellFormed}
 use Rattle.steps.specs.Step.{Called, gives, need, stepOn}
+
+-- the answer of a refusal
+abbrev pub refusedWith : ℕ → Answer
+refusedWith n = Refused (plain n)
 
 unfoldable pub stepCall : (table event : List ℕ) → Called
 stepCall t e = need (eqb (length t) tableLength && eqb (length e) 32) 23 t (need (wellFormed t) 24 t (stepOn t e))

@@ -7,25 +7,29 @@ use lib.Dec.{T}
 use lib.ListN.{length, getD}
 use Rattle.codec.specs.Le.{Bytes}
 use Rattle.protocol.specs.View.{Place, ofSession, atSite, onChannel, place}
-use Rattle.protocol.specs.Promises.{Alike}
+use Rattle.protocol.specs.Promises.{SiteAlike, Alike}
 use Rattle.table.specs.Parts.{tableLength, placeOf, siteOf, channelOf}
 use Rattle.table.specs.Channel.{frontIn, waitIn}
-use Rattle.table.specs.Decode.{decode}
+use Rattle.table.specs.Decode.{settingIn, decode}
 use Rattle.lawful.specs.WellFormed.{wellFormed}
 use Rattle.event.specs.Event.{eventOf}
 use Rattle.steps.specs.Step.{Called}
 use Rattle.archive.specs.Call.{stepCall}
+use Rattle.archive.specs.Story.{isEvent}
 
 -- where the next message goes, in each outgoing channel of site m
 unfoldable pub NextAlike : List ℕ → List ℕ → (m : ℕ) → Type 0
 NextAlike t u m = (p d : ℕ) → p < 4 → d < 3 →
     (frontIn (channelOf (siteOf t m) p d) + waitIn (channelOf (siteOf t m) p d)) % 8 ≡ (frontIn (channelOf (siteOf u m) p d) + waitIn (channelOf (siteOf u m) p d)) % 8
 
--- and, for a DELIVER, where the front of its channel stands
-unfoldable pub PlacesAlike : List ℕ → List ℕ → Place → Type 0
-PlacesAlike t u (ofSession s) = NextAlike t u (decode t .session s .site)
-PlacesAlike t u (atSite m) = NextAlike t u m
-PlacesAlike t u (onChannel i m p) = frontIn (channelOf (siteOf t i) p (placeOf i m)) % 8 ≡ frontIn (channelOf (siteOf u i) p (placeOf i m)) % 8
+-- the tables agree on what an event may look at: its session and, where that is open, the session's site; its site; or its site and its channel, with
+-- the place of that channel's front
+unfoldable pub AgreeOn : (t u : List ℕ) → Place → Type 0
+AgreeOn t u (ofSession s) =
+    (decode t .session s ≡ decode u .session s) × (T (decode t .session s .isOpen) → SiteAlike (decode t .net) (decode u .net) (decode t .session s .site) × NextAlike t u (decode t .session s .site))
+AgreeOn t u (atSite m) = SiteAlike (decode t .net) (decode u .net) m × NextAlike t u m
+AgreeOn t u (onChannel i m p) =
+    Alike (decode t) (decode u) (onChannel i m p) × (frontIn (channelOf (siteOf t i) p (placeOf i m)) % 8 ≡ frontIn (channelOf (siteOf u i) p (placeOf i m)) % 8)
 
 -- at every place either both are as they were, or both got the same byte
 unfoldable pub SameWrites : (t t′ u u′ : List ℕ) → Type 0
@@ -35,6 +39,7 @@ pub record SameStep (t u : List ℕ) (c d : Called) : Type 0 where
   pub answer : c .answer ≡ d .answer
   pub bytes : SameWrites t (c .table) u (d .table)
 
+-- "Among well-formed tables with equal site and partition numbers"; bytes that are no event look at nothing
 abbrev pub Influenced : Type 0
 Influenced = (t u e : List ℕ) → length t ≡ tableLength → length u ≡ tableLength → Bytes t → Bytes u → T (wellFormed t) → T (wellFormed u) →
-    Alike (decode t) (decode u) (place (eventOf e)) → PlacesAlike t u (place (eventOf e)) → SameStep t u (stepCall t e) (stepCall u e)
+    settingIn t ≡ settingIn u → (T (isEvent e) → AgreeOn t u (place (eventOf e))) → SameStep t u (stepCall t e) (stepCall u e)

@@ -24,7 +24,7 @@ use Rattle.table.specs.Channel.{ringAt, frontIn, waitIn, queueIn}
 use Rattle.table.specs.Decode.{decode}
 use Rattle.decision.specs.Decided.{answered}
 use Rattle.decision.proofs.Room.{store-room}
-use Rattle.decision.proofs.Times.{refuse}
+use Rattle.decision.proofs.Ladders.{no as refuse}
 
 -- ---- a channel's queue
 

@@ -45,6 +45,24 @@ module _ (c : Setting) (fit : Rec → Bool) (f : ℕ → Rec) where
       ∙ ap (λ o. cond (fit (f n)) (some (laterOf c (f n) o)) o) (newest-is-found n)
       ∙ later-is-better n (newestPlace c fit f n)
 
+  found-none : (b : ℕ) → b ≡ 0 → found f b ≡ none
+  unfolding found
+  found-none b z = rw z
+
+  found-some : (b : ℕ) → (b ≡ 0 → ⊥) → found f b ≡ some (f (b - 1))
+  unfolding found
+  found-some zero z = absurd (z refl)
+  found-some (suc i) z =
+      let e : suc i - 1 ≡ i = omega arith in
+      rw e
+
+  module _ (n b : ℕ) (e : b ≡ newestPlace c fit f n) where
+    pub newest-none : b ≡ 0 → newest c fit (tabulate n f) ≡ none
+    newest-none z = newest-is-found n ∙ ap (found f) (sym e) ∙ found-none b z
+
+    pub newest-some : (b ≡ 0 → ⊥) → newest c fit (tabulate n f) ≡ some (f (b - 1))
+    newest-some z = newest-is-found n ∙ ap (found f) (sym e) ∙ found-some b z
+
   -- ---- the four cases of one more record
 
   pub better-unfit : (n b : ℕ) → fit (f n) ≡ false → b ≡ betterPlace c fit f n b

@@ -6,7 +6,6 @@ ghost use Prim.Native.Nat.{_<_};
 ghost use Rattle.vector.specs.Vec.{larger, raised};
 ghost use Rattle.vector.specs.Entries.{entry};
 ghost use Rattle.protocol.specs.Record.{raisedBy};
-ghost use Rattle.protocol.specs.State.{closed};
 ghost use Rattle.protocol.specs.Event.{plain, shown};
 ghost use Rattle.protocol.specs.Change.{SetSession};
 ghost use Rattle.protocol.specs.Serve.{_and_};
@@ -16,6 +15,7 @@ ghost use Rattle.decision.specs.Decided.{outcomeOf};
 use crate::Decided;
 use crate::Effect;
 use crate::Found;
+use crate::keeping;
 use protocol::Answer;
 use protocol::Refusal;
 use table::Session;
@@ -65,22 +65,6 @@ pub fn raised_by(v: Vector, x: Found) -> Vector
     raised(v, carried, r.source, r.stamp)
 }
 
-pub fn closed() -> Session
-    ensures { λ r. ⌜ asSession r ≡ closed ⌝ }
-{
-    Session {
-        open: false,
-        site: 0,
-        vec: Vector::ZERO,
-        paged: false,
-        count: 0,
-        keys: [0; 8],
-        marks: [false; 8],
-        page: Vector::ZERO,
-        gathered: Vector::ZERO,
-    }
-}
-
 // "Every other answer has zeros after the number": a refusal, or the wait 3, and nothing changes.
 pub fn refused(number: u8) -> Decided
     ensures { λ r. ⌜ outcomeOf r ≡ (Answer.Refused (plain number) and []) ⌝ }
@@ -94,7 +78,7 @@ pub fn refused(number: u8) -> Decided
         answer,
         effect: Effect::Nothing,
         carried: Vector::ZERO,
-        session: closed(),
+        session: keeping::closed(),
     }
 }
 

@@ -7,8 +7,12 @@ use table::Session;
 use vector::Vector;
 
 pub mod answers;
+pub mod keeping;
 pub mod lookup;
+pub mod marks;
+pub mod pages;
 pub mod search;
+pub mod sessions;
 pub mod writes;
 
 // What is then carried out. A delivery holds its message, which is numbers; an update's vector and a session stand beside the effect.

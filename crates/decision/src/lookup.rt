@@ -6,13 +6,17 @@ ghost use Prim.Native.Nat.{_≤_, _<_};
 ghost use lib.Dec.{T};
 ghost use lib.ListN.{length};
 ghost use Rattle.vector.specs.Entries.{entry};
-ghost use Rattle.protocol.specs.Record.{partOf};
+ghost use Rattle.protocol.specs.Record.{Setting, partOf, newest};
 ghost use Rattle.table.specs.Parts.{sessionOf, siteOf, nodeOf};
-ghost use Rattle.table.specs.Node.{heardIn};
+ghost use Rattle.table.specs.Node.{heardIn, storeIn};
 ghost use Rattle.table.specs.Session.{sessionIn};
 ghost use Rattle.table.specs.Values.{asSession};
 ghost use Rattle.table.specs.Decode.{settingIn};
 ghost use Rattle.lawful.specs.WellFormed.{wellFormed};
+ghost use Rattle.decision.specs.Search.{fitsRead};
+ghost use Rattle.decision.specs.Found.{foundOf};
+use crate::Found;
+use crate::search;
 use table::Session;
 use table::nodes;
 use table::sessions;
@@ -43,4 +47,14 @@ pub fn heard(t: &[u8], m: u8, p: u8) -> Vector
     let off = 4096 + 13056 * (m as usize) + 1856 * (p as usize);
     let end = off + 1856;
     nodes::heard(&t[off..end])
+}
+
+// The newest record there that fits a read of the key: on a page, that of the page's vector.
+pub fn newest(t: &[u8], m: u8, p: u8, key: u8, paged: bool, page: Vector) -> Found
+    requires { ⌜ (length (now t) ≡ 57344) × T (wellFormed (now t)) × (m < 4) × (p < 4) ⌝ }
+    ensures { λ r. ⌜ ((c : Setting) → foundOf r ≡ newest c (fitsRead paged key (entry (page .e))) (storeIn (nodeOf (siteOf (now (t .entry)) m) p))) × (r .reading .source < 4) ⌝ }
+{
+    let off = 4096 + 13056 * (m as usize) + 1856 * (p as usize);
+    let end = off + 1856;
+    search::newest(&t[off..end], key, paged, page)
 }

@@ -1,14 +1,29 @@
 // The search for the newest record of a node that fits a read. In order: whether a record fits, which of two is newer, one more record beside the
-// best so far, and all. A place is counted from 1, and 0 is none. Nothing of a record is read but what these tests ask. Assumes nothing.
+// best so far, all, and what is found. A place is counted from 1, and 0 is none. Nothing of a record is read but what these tests ask. Assumes nothing.
 ghost use mathlib.Core.Path.{_≡_};
 ghost use Prim.Native.Nat.{ℕ, _+_, _≤_, _<_};
 ghost use lib.ListN.{length};
 ghost use Rattle.vector.specs.Entries.{entry};
-ghost use Rattle.protocol.specs.Record.{Setting, newer};
+ghost use Rattle.protocol.specs.Record.{Setting, newer, newest};
 ghost use Rattle.table.specs.Letter.{recordAt};
-ghost use Rattle.table.specs.Node.{slotAt};
+ghost use Rattle.table.specs.Node.{slotAt, heldIn, storeIn};
 ghost use Rattle.decision.specs.Search.{fitsRead, betterPlace, newestPlace};
+ghost use Rattle.decision.specs.Found.{foundOf};
+use crate::Found;
+use table::Reading;
+use table::letters;
+use table::nodes;
 use vector::Vector;
+
+// What stands where nothing was found.
+const BLANK: Reading = Reading {
+    key: 0,
+    source: 0,
+    quality: 0,
+    level: 0,
+    stamp: 0,
+    carried: Vector::ZERO,
+};
 
 // Whether the record at `at` is of the key and, on a page, carries no more than the page's vector. The key is compared first: it is one byte.
 fn is_candidate(n: &[u8], at: usize, key: u8, paged: bool, page: Vector) -> bool
@@ -57,7 +72,7 @@ fn better(n: &[u8], k: usize, best: usize, key: u8, paged: bool, page: Vector) -
 // The place of the newest of the first `held` records of a node that fits.
 pub fn newest_place(n: &[u8], held: usize, key: u8, paged: bool, page: Vector) -> usize
     requires { ⌜ (length (now n) ≡ 1856) × (held ≤ 32) ⌝ }
-    ensures { λ r. ⌜ ((c : Setting) → r ≡ newestPlace c (fitsRead paged key (entry (page .e))) (λ k. recordAt (now (n .entry)) (slotAt k)) held) ⌝ }
+    ensures { λ r. ⌜ (r ≤ held) × ((c : Setting) → r ≡ newestPlace c (fitsRead paged key (entry (page .e))) (λ k. recordAt (now (n .entry)) (slotAt k)) held) ⌝ }
 {
     let mut best = 0;
     let mut k = 0;
@@ -66,4 +81,23 @@ pub fn newest_place(n: &[u8], held: usize, key: u8, paged: bool, page: Vector) -
         k += 1;
     }
     best
+}
+
+// The newest record of a node that fits.
+pub fn newest(n: &[u8], key: u8, paged: bool, page: Vector) -> Found
+    requires { ⌜ (length (now n) ≡ 1856) × (heldIn (now n) ≤ 32) × ((k : ℕ) → k < heldIn (now n) → recordAt (now n) (slotAt k) .id .source < 4) ⌝ }
+    ensures { λ r. ⌜ ((c : Setting) → foundOf r ≡ newest c (fitsRead paged key (entry (page .e))) (storeIn (now (n .entry)))) × (r .reading .source < 4) ⌝ }
+{
+    let held = nodes::held(n) as usize;
+    let place = newest_place(n, held, key, paged, page);
+    if place == 0 {
+        return Found {
+            found: false,
+            reading: BLANK,
+        };
+    }
+    Found {
+        found: true,
+        reading: letters::load_record(n, 64 + 56 * (place - 1)),
+    }
 }

@@ -1,5 +1,5 @@
--- When a table's bytes are well formed: what they say is lawful, and what says it (flags, marks, kinds, a heartbeat's zeros) is too. Unused places
--- may hold any bytes. Assumes nothing.
+-- When a table's bytes are well formed: what they say is lawful, and what says it (flags, marks, kinds, a heartbeat's zeros) is too. Unused slots, ring
+-- places and page keys, and all room, may hold any bytes; flags, marks, clocks and vectors are tested at every place. Assumes nothing.
 use Prim.Native.Nat.{ℕ, _+_, _-_}
 use mathlib.Core.Bool.{Bool, cond, _&&_, _||_}
 use mathlib.Core.List.{List}

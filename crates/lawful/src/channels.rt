@@ -1,10 +1,9 @@
 // A channel's 464 bytes: messages that are lawful, none where the channel is absent. In order: the messages, the channel. Assumes nothing.
 ghost use mathlib.Core.Path.{_≡_};
-ghost use Prim.Native.Nat.{_≤_, _<_};
+ghost use Prim.Native.Nat.{_<_};
 ghost use lib.ListN.{length};
 ghost use Rattle.vector.specs.Vec.{allBelow};
-ghost use Rattle.protocol.specs.Record.{Setting};
-ghost use Rattle.table.specs.Channel.{ringAt, frontIn};
+ghost use Rattle.table.specs.Channel.{ringAt};
 ghost use Rattle.lawful.specs.WellFormed.{messageFormed, channelFormed};
 use crate::letters;
 use crate::nodes;

@@ -2,13 +2,10 @@
 // heartbeat with its zeros, a key of its partition, and level and quality in range". In order: a level, a record by value, a record in bytes,
 // an update, a heartbeat, a message. Assumes nothing.
 ghost use mathlib.Core.Path.{_≡_};
-ghost use mathlib.Core.Bool.{_&&_};
 ghost use Prim.Native.Nat.{_+_, _≤_, _<_};
-ghost use lib.Dec.{eqb};
 ghost use lib.ListN.{length};
-ghost use Rattle.codec.specs.Le.{load};
 ghost use Rattle.protocol.specs.Needs.{levelLawful};
-ghost use Rattle.protocol.specs.Record.{Setting, Update};
+ghost use Rattle.protocol.specs.Record.{Update};
 ghost use Rattle.table.specs.Letter.{recordAt};
 ghost use Rattle.table.specs.Values.{asRecord};
 ghost use Rattle.lawful.specs.Values.{recordLawful, messageLawful};

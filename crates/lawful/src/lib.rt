@@ -1,10 +1,9 @@
 // "A table is well formed when": whether it is, computed over the whole table. It only reads, and of records and messages only those in use. In
 // order: the numbers of sites and partitions, the sessions, the sites, the table. What each thing must be stands in a file of its own. Assumes nothing.
 ghost use mathlib.Core.Path.{_≡_};
-ghost use Prim.Native.Nat.{ℕ, _≤_, _<_};
+ghost use Prim.Native.Nat.{ℕ, _<_};
 ghost use lib.ListN.{length};
 ghost use Rattle.vector.specs.Vec.{allBelow};
-ghost use Rattle.protocol.specs.Record.{Setting};
 ghost use Rattle.table.specs.Parts.{sessionOf, siteOf};
 ghost use Rattle.lawful.specs.Values.{settingLawful};
 ghost use Rattle.lawful.specs.WellFormed.{sessionFormed, siteFormed, wellFormed};

@@ -5,7 +5,6 @@ ghost use mathlib.Core.Bool.{cond};
 ghost use Prim.Native.Nat.{_≤_, _<_};
 ghost use lib.ListN.{length};
 ghost use Rattle.vector.specs.Vec.{allBelow};
-ghost use Rattle.protocol.specs.Record.{Setting};
 ghost use Rattle.table.specs.Node.{slotAt};
 ghost use Rattle.lawful.specs.WellFormed.{recordFormed, nodeFormed};
 use crate::letters;

@@ -1,4 +1,4 @@
-// "an open page has 1 to 8 different keys, each 0 to 63". In order: the range of keys, whether a key is none of some, whether keys differ, the keys of
+// "an open page has 1 to 8 different keys, each 0 to 63". In order: the range of keys, whether a key is one of some, whether keys differ, the keys of
 // a session's page. Assumes nothing.
 ghost use mathlib.Core.Path.{_≡_};
 ghost use mathlib.Core.Bool.{not, _&&_, _||_};

@@ -2,7 +2,6 @@
 ghost use mathlib.Core.Path.{_≡_};
 ghost use Prim.Native.Nat.{ℕ, _+_, _≤_};
 ghost use lib.ListN.{length};
-ghost use Rattle.protocol.specs.Record.{Setting};
 ghost use Rattle.table.specs.Session.{sessionIn};
 ghost use Rattle.lawful.specs.Values.{pageLawful};
 ghost use Rattle.lawful.specs.WellFormed.{flagsAt, sessionFormed};

@@ -1,10 +1,9 @@
 // A site's part of the table, 13,056 bytes: 4 nodes, and for each partition 3 outgoing channels. Each function lends the node or the channel that it
 // is about. In order: a node, a channel, the channels of a partition, the site. Assumes nothing.
 ghost use mathlib.Core.Path.{_≡_};
-ghost use Prim.Native.Nat.{_≤_, _<_};
+ghost use Prim.Native.Nat.{_<_};
 ghost use lib.ListN.{length};
 ghost use Rattle.vector.specs.Vec.{allBelow};
-ghost use Rattle.protocol.specs.Record.{Setting};
 ghost use Rattle.table.specs.Parts.{nodeOf, channelOf};
 ghost use Rattle.lawful.specs.WellFormed.{nodeFormed, channelFormed, siteFormed};
 use crate::channels;

@@ -1,4 +1,4 @@
-// "clocks, vectors and stamps are within the time limit and entries of absent sites are 0". In order: a time, an entry, a vector by value, a vector
+// "clocks, vectors and stamps are within the time limit and entries of absent sites are 0". In order: a time, an entry and its limit, a vector by value, a vector
 // in bytes, and the vector zero in bytes. Assumes nothing.
 ghost use mathlib.Core.Path.{_≡_};
 ghost use mathlib.Core.Bool.{cond};
@@ -7,26 +7,30 @@ ghost use lib.Dec.{ltb, eqb};
 ghost use lib.ListN.{length};
 ghost use Rattle.vector.specs.Vec.{width, allBelow};
 ghost use Rattle.vector.specs.Entries.{entry, loadVec};
-ghost use Rattle.protocol.specs.Record.{Setting};
 ghost use Rattle.lawful.specs.Values.{timeLawful, vecLawful};
 use vector::Vector;
 
-// "0 to 281,474,976,710,655"
+// "0 to 281,474,976,710,655": how many times there are.
+const TIMES: u64 = 281474976710656;
+
 pub fn time_lawful(x: u64) -> bool
     ensures { λ r. ⌜ r ≡ timeLawful x ⌝ }
 {
-    x < 281474976710656
+    x < TIMES
 }
 
-// The entry x of site i.
+// How many numbers an entry of site i may be: of an absent site just 0.
+pub fn entry_limit(i: usize, sites: u8) -> u64
+    ensures { λ r. ⌜ r ≡ cond (ltb i sites) 281474976710656 1 ⌝ }
+{
+    if i < sites as usize { TIMES } else { 1 }
+}
+
+// The entry x of site i. One comparison for both kinds of site, so that eight bytes are loaded as one number.
 pub fn entry_lawful(x: u64, i: usize, sites: u8) -> bool
     ensures { λ r. ⌜ r ≡ cond (ltb i sites) (timeLawful x) (eqb x 0) ⌝ }
 {
-    if i < sites as usize {
-        time_lawful(x)
-    } else {
-        x == 0
-    }
+    x < entry_limit(i, sites)
 }
 
 // Of the setting only the number of sites is asked.

@@ -1,2 +1,3 @@
--- What a step on a well-formed table gives.
+-- What a step on a well-formed table gives, and many of them.
 pub mod Step
+pub mod Run

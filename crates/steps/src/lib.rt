@@ -1,4 +1,2 @@
-// Effects carried out, and a step on a table known to be well formed.
-pub fn events() -> u8 {
-    10
-}
+// Effects carried out, a step on a table known to be well formed, and many of them. Assumes nothing.
+pub mod pieces;

@@ -16,9 +16,6 @@ use Rattle.protocol.specs.State.{Mark}
 use Rattle.table.specs.Session.{flag, markAt, putMarks}
 use Rattle.table.specs.Tabulate.{tabulate}
 
--- The keys and marks of a page, in two arrays. In order: an array that is filled from the front; lists of a function's values; the marks put one
--- after the other, as the code counts. Assumes nothing.
-
 -- what the two arrays say of mark i
 abbrev pub markOf : List ℕ → List Bool → ℕ → Mark
 markOf keys marks i = record { key = getD keys i 0; read = getD marks i false }

@@ -13,8 +13,6 @@ use Rattle.table.specs.Values.{messageOf, asMessage}
 use Rattle.table.specs.declared.Message.{Message}
 use Rattle.table.specs.declared.Letter.{Letter}
 
--- The values that the code holds, as the protocol's: a vector that was loaded, and the vector zero, are their entries. Assumes nothing.
-
 -- a vector that has no entry beyond the width is its entries
 entry-all : (v : Vec) → ((i : ℕ) → width ≤ i → v i ≡ 0) → entry (entries v) ≡ v
 unfolding entry

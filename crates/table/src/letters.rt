@@ -80,7 +80,7 @@ pub fn stamp(x: Letter) -> u64
     }
 }
 
-// The eight fields, in the order of their places.
+// The seven fields, in the order of their places.
 fn store_fields(
     b: &mut [u8],
     at: usize,

@@ -1,14 +1,12 @@
 -- `table::publish` meets its contract, by what comes back of the site's part. Assumes nothing.
-use mathlib.Core.Path.{sym, subst}
+use mathlib.Core.Path.{sym}
 use Prim.Native.Nat.{_-_}
 use native.Mathlib.Omega.{arith}
 use borrow.Author.Needs.{needs}
 use Rattle.codec.proofs.Part.{lent-back}
-use Rattle.codec.specs.Le.{load}
 use Rattle.table.specs.Put.{publishedOn, putChange}
-use Rattle.table.specs.Parts.{siteAt, onSite, nodeOf}
+use Rattle.table.specs.Parts.{siteAt, onSite}
 use Rattle.table.specs.Values.{asMessage}
-use Rattle.table.specs.Room.{Room, Free}
 use Rattle.table.proofs.Lent.{site-lent}
 use Rattle.table.proofs.publish.Statement.{statement}
 use Rattle.table.proofs.publish.Tie as tie
@@ -46,9 +44,7 @@ publish-requires c κs =
     let s = k .before .before .before in
     let a = s .args in
     let here = site-lent (a .t .now) (a .m) (omega arith) in
-    let room = subst (λ b. Room (asMessage (a .x)) (nodeOf b (a .p))) here (s .pre .5) in
-    let free = subst (Free (load 1 (a .t .now) 0 - 1) (a .p)) here (s .pre .6) in
-    (search needs, omega arith, omega arith, omega arith, room, rw (k .load-u8 .ensures) free)
+    (search needs, omega arith, omega arith, omega arith, rw (← here) (s .pre .5), rw (k .load-u8 .ensures, ← here) (s .pre .6))
 
 same-length : tie.Need-same-length
 same-length c = search needs

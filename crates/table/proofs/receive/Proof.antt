@@ -2,15 +2,13 @@
 use mathlib.Core.Path.{_∙_}
 use native.Mathlib.Omega.{arith}
 use borrow.Author.Needs.{needs}
-use Rattle.codec.specs.Part.{Keeps}
 use Rattle.table.specs.Put.{putChange}
 use Rattle.table.specs.Values.{asMessage}
-use Rattle.table.specs.Node.{received}
-use Rattle.table.specs.Parts.{onNode}
-use Rattle.table.proofs.Beside.{length-onNode, site-onSite}
-use Rattle.table.proofs.Lengths.{length-received}
+use Rattle.table.proofs.Beside.{site-received}
 use Rattle.table.proofs.receive.Statement.{statement}
 use Rattle.table.proofs.receive.Tie as tie
+
+-- `table::receive` meets its contract: the two sites' parts are apart, so the second change finds its channel as it was. Assumes nothing.
 
 place-of-requires : tie.Need-place-of-requires
 place-of-requires c κs = search needs
@@ -24,9 +22,7 @@ take-off-requires c κs =
     let d = k .before .before in
     let s = d .before .before in
     let a = s .args in
-    let x = asMessage (a .x) in
-    let keeps : Keeps 13056 (onNode (a .p) (received (a .i) x)) = λ b e. length-onNode (received (a .i) x) b (a .p) e (omega arith) (λ n q. length-received (a .i) x n ∙ q) in
-    let same = site-onSite (onNode (a .p) (received (a .i) x)) (a .t .now) (a .m) (a .i) (s .pre .0) (omega arith) (omega arith) (s .pre .4) keeps in
+    let same = site-received (a .i) (asMessage (a .x)) (a .t .now) (a .m) (a .p) (s .pre .0) (omega arith) (omega arith) (omega arith) (s .pre .4) in
     (omega arith, omega arith, omega arith, omega arith, rw (k .take-in .ensures, same, d .place-of .ensures .0) (s .pre .6))
 
 same-length : tie.Need-same-length

@@ -1,10 +1,8 @@
 -- `table::take_in` meets its contract, by what comes back of the site's part. Assumes nothing.
-use mathlib.Core.Path.{subst}
 use native.Mathlib.Omega.{arith}
 use borrow.Author.Needs.{needs}
 use Rattle.codec.proofs.Part.{lent-back}
-use Rattle.table.specs.Room.{Room}
-use Rattle.table.specs.Parts.{nodeOf, siteAt, onSite, onNode}
+use Rattle.table.specs.Parts.{siteAt, onSite, onNode}
 use Rattle.table.specs.Values.{asMessage}
 use Rattle.table.specs.Node.{received}
 use Rattle.table.proofs.Lent.{site-lent}
@@ -33,7 +31,7 @@ receive-requires : tie.Need-receive-requires
 receive-requires c κs =
     let s = c .before .before in
     let a = s .args in
-    (search needs, omega arith, omega arith, subst (λ b. Room (asMessage (a .x)) (nodeOf b (a .p))) (site-lent (a .t .now) (a .m) (omega arith)) (s .pre .4))
+    (search needs, omega arith, omega arith, rw (← site-lent (a .t .now) (a .m) (omega arith)) (s .pre .4))
 
 same-length : tie.Need-same-length
 same-length c = search needs

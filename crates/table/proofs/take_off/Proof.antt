@@ -1,11 +1,9 @@
 -- `table::take_off` meets its contract, by what comes back of the site's part. Assumes nothing.
-use mathlib.Core.Path.{subst}
-use Prim.Native.Nat.{_<_}
 use native.Mathlib.Omega.{arith}
 use borrow.Author.Needs.{needs}
 use Rattle.codec.proofs.Part.{lent-back}
-use Rattle.table.specs.Channel.{waitIn, popped}
-use Rattle.table.specs.Parts.{channelOf, siteAt, onSite, onChannel}
+use Rattle.table.specs.Channel.{popped}
+use Rattle.table.specs.Parts.{siteAt, onSite, onChannel}
 use Rattle.table.proofs.Lent.{site-lent}
 use Rattle.table.proofs.take_off.Statement.{statement}
 use Rattle.table.proofs.take_off.Tie as tie
@@ -32,7 +30,7 @@ pop-requires : tie.Need-pop-requires
 pop-requires c κs =
     let s = c .before .before in
     let a = s .args in
-    (search needs, omega arith, omega arith, subst (λ b. 0 < waitIn (channelOf b (a .p) (a .d))) (site-lent (a .t .now) (a .i) (omega arith)) (s .pre .4))
+    (search needs, omega arith, omega arith, rw (← site-lent (a .t .now) (a .i) (omega arith)) (s .pre .4))
 
 same-length : tie.Need-same-length
 same-length c = search needs

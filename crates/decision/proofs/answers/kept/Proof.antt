@@ -3,8 +3,6 @@ use mathlib.Core.Path.{refl}
 use Rattle.decision.specs.Decided.{changesOf, outcomeOf}
 use Rattle.decision.proofs.answers.kept.Statement.{statement}
 use Rattle.decision.proofs.answers.kept.Tie as tie
-use Rattle.decision.proofs.answers.kept.Reads as reads
-use Rattle.decision.proofs.answers.kept.Lts as lts
 
 returns : tie.Need-returns
 unfolding outcomeOf changesOf

@@ -5,9 +5,6 @@ use Rattle.decision.specs.Decided.{changesOf, outcomeOf}
 use borrow.Author.Needs.{needs}
 use Rattle.decision.proofs.answers.refused.Statement.{statement}
 use Rattle.decision.proofs.answers.refused.Tie as tie
-use Rattle.decision.proofs.answers.refused.Reads as reads
-use Rattle.decision.proofs.answers.refused.Lts as lts
-use Rattle.decision.proofs.answers.closed.Reads as closed-reads
 
 closed-requires : tie.Need-closed-requires
 closed-requires c κs = search needs

@@ -8,8 +8,6 @@ use Rattle.table.specs.Values.{asRecord}
 use Rattle.decision.specs.Found.{foundOf}
 use Rattle.decision.proofs.answers.shown.Statement.{statement}
 use Rattle.decision.proofs.answers.shown.Tie as tie
-use Rattle.decision.proofs.answers.shown.Reads as reads
-use Rattle.decision.proofs.answers.shown.Lts as lts
 
 returns : tie.Need-returns
 unfolding shown foundOf

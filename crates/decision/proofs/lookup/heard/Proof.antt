@@ -7,9 +7,6 @@ use Rattle.decision.proofs.Whole.{node-in-table}
 use borrow.Author.Needs.{needs}
 use Rattle.decision.proofs.lookup.heard.Statement.{statement}
 use Rattle.decision.proofs.lookup.heard.Tie as tie
-use Rattle.decision.proofs.lookup.heard.Reads as reads
-use Rattle.decision.proofs.lookup.heard.Lts as lts
-use Rattle.table.proofs.nodes.heard.Reads as heard-reads
 
 mul-off : tie.Need-mul-off
 mul-off c = search needs

@@ -8,9 +8,6 @@ use Rattle.decision.proofs.Formed.{parts-some, parts-at-most}
 use borrow.Author.Needs.{needs}
 use Rattle.decision.proofs.lookup.partition.Statement.{statement}
 use Rattle.decision.proofs.lookup.partition.Tie as tie
-use Rattle.decision.proofs.lookup.partition.Reads as reads
-use Rattle.decision.proofs.lookup.partition.Lts as lts
-use Rattle.codec.proofs.load_u8.Reads as load-u8-reads
 
 load-u8-requires : tie.Need-load-u8-requires
 load-u8-requires c κs = search needs

@@ -10,9 +10,6 @@ use Rattle.decision.proofs.Told.{count-told, here-told}
 use borrow.Author.Needs.{needs}
 use Rattle.decision.proofs.lookup.session.Statement.{statement}
 use Rattle.decision.proofs.lookup.session.Tie as tie
-use Rattle.decision.proofs.lookup.session.Reads as reads
-use Rattle.decision.proofs.lookup.session.Lts as lts
-use Rattle.table.proofs.sessions.load.Reads as load-reads
 
 mul-off : tie.Need-mul-off
 mul-off c = search needs
@@ -43,9 +40,11 @@ returns c =
     let s = c .before .before .before in
     let a = s .args in
     let t = a .t .now in
-    let told = c .load .ensures ∙ ap sessionIn (sym (session-lent t (a .s) (s .pre .2))) in
-    (told, subst (λ n. n ≤ 8) (sym (count-told (c .load .result) (sessionOf t (a .s)) told)) (session-marks t (s .pre .1) (a .s) (s .pre .2)),
-      λ o. here-told (c .load .result) t (s .pre .1) (a .s) (s .pre .2) told o)
+    let told = c .load .ensures ∙ ap sessionIn (sym (session-lent t (a .s) (s .pre .2))) in (
+      told,
+      subst (λ n. n ≤ 8) (sym (count-told (c .load .result) (sessionOf t (a .s)) told)) (session-marks t (s .pre .1) (a .s) (s .pre .2)),
+      λ o. here-told (c .load .result) t (s .pre .1) (a .s) (s .pre .2) told o,
+    )
 
 pub session-spec : {M : Type 1} → statement M
 session-spec =

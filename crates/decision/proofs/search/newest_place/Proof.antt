@@ -21,12 +21,14 @@ abbrev μ-loop : tie.MeasureT-loop
 loop-holds : tie.Need-loop-holds Inv-loop μ-loop
 loop-holds c = (omega arith, λ d. sym (place-none d _ _))
 
+-- the place is found over any setting, so its range follows at one
+best-at-most : (l : tie.At-loop Inv-loop μ-loop) → l .loop .best ≤ l .loop .k
+best-at-most l =
+    let any : Setting = record { sites = 0; parts = 0 } in
+    rw (l .loop .inv .1 any) (place-at-most any _ _ (l .loop .k))
+
 better-requires : tie.Need-better-requires Inv-loop μ-loop
-better-requires c κs =
-    let l = c .before in
-    let some : Setting = record { sites = 0; parts = 0 } in
-    let h : l .loop .best ≤ l .loop .k = rw (l .loop .inv .1 some) (place-at-most some _ _ (l .loop .k)) in
-    (search needs, omega arith, h)
+better-requires c κs = (search needs, omega arith, best-at-most (c .before))
 
 add-k : tie.Need-add-k Inv-loop μ-loop
 add-k c = search needs
@@ -43,7 +45,7 @@ returns : tie.Need-returns Inv-loop μ-loop
 returns c =
     let l = c .before in
     let e : l .loop .k ≡ l .before .before .args .held = omega arith in
-    λ d. l .loop .inv .1 d ∙ ap (newestPlace d _ _) e
+    (omega (arith, best-at-most l), λ d. l .loop .inv .1 d ∙ ap (newestPlace d _ _) e)
 
 pub newest-place-spec : {M : Type 1} → statement M
 newest-place-spec =

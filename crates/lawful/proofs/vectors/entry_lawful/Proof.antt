@@ -1,17 +1,35 @@
--- `lawful::vectors::entry_lawful` meets its contract, on either side of its test. Assumes nothing.
-use borrow.Author.Tests.{lt-ltb, le-ltb}
+-- `lawful::vectors::entry_lawful` meets its contract, by the limit on either side of its test. Assumes nothing.
+use mathlib.Core.Path.{_≡_, refl, sym, _∙_}
+use mathlib.Core.Bool.{Bool, true, false, cond}
+use Prim.Native.Nat.{ℕ}
+use native.Mathlib.Decide.{ℕ-discrete}
+use native.Mathlib.Omega.{arith}
 use borrow.Author.Needs.{needs}
+use borrow.Author.Tests.{le-ltb, ne-eqb}
+use lib.Dec.{ltb, eqb}
+use Rattle.lawful.specs.Values.{timeLawful}
 use Rattle.lawful.proofs.vectors.entry_lawful.Statement.{statement}
 use Rattle.lawful.proofs.vectors.entry_lawful.Tie as tie
 
-time-lawful-requires : tie.Need-time-lawful-requires
-time-lawful-requires c κs = search needs
+below-one : (x : ℕ) → ltb x 1 ≡ eqb x 0
+below-one x = go (ℕ-discrete x 0)
+  where
+    go : Dec (x ≡ 0) → ltb x 1 ≡ eqb x 0
+    go (yes e) = rw e
+    go (no d) = le-ltb x 1 (omega arith) ∙ sym (ne-eqb x 0 d)
+
+below-limit : (there : Bool) (x : ℕ) → ltb x (cond there 281474976710656 1) ≡ cond there (timeLawful x) (eqb x 0)
+unfolding timeLawful
+below-limit true x = refl
+below-limit false x = below-one x
+
+entry-limit-requires : tie.Need-entry-limit-requires
+entry-limit-requires c κs = search needs
 
 returns : tie.Need-returns
-returns c = rw (lt-ltb _ _ (c .before .if1 .taken)) (c .time-lawful .ensures)
-
-returns-2 : tie.Need-returns-2
-returns-2 c = rw (le-ltb _ _ (c .if1 .left))
+returns c =
+    let a = c .before .args in
+    rw (c .entry-limit .ensures) (below-limit (ltb (a .i) (a .sites)) (a .x))
 
 pub entry-lawful-spec : {M : Type 1} → statement M
-entry-lawful-spec = tie.close (tie.spec time-lawful-requires returns returns-2)
+entry-lawful-spec = tie.close (tie.spec entry-limit-requires returns)

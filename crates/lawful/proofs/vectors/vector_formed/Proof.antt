@@ -1,9 +1,5 @@
 -- `lawful::vectors::vector_formed` meets its contract: what was loaded are the entries. Assumes nothing.
-use Rattle.vector.specs.Entries.{entry}
 use Rattle.table.proofs.Values.{entry-loadVec}
-use mathlib.Core.Path.{ap, _∙_}
-use Rattle.lawful.specs.Values.{vecLawful}
-use Rattle.protocol.specs.Record.{Setting}
 use borrow.Author.Needs.{needs}
 use Rattle.lawful.proofs.vectors.vector_formed.Statement.{statement}
 use Rattle.lawful.proofs.vectors.vector_formed.Tie as tie

@@ -32,9 +32,8 @@ returns c =
     let k4 = k5 .before .before .before .before in
     let k3 = k4 .before .before .before .before in
     let k2 = k3 .before .before .before .before in
-    let k1 = k2 .before .before .before .before in
     k5 .store-marks .ensures
-    ∙ rw (k4 .store-vector3 .ensures, k3 .store-vector2 .ensures, k2 .store-vector .ensures, k1 .store-head .ensures, length-tabulate)
+    ∙ rw (k4 .store-vector3 .ensures, k3 .store-vector2 .ensures, k2 .store-vector .ensures, k2 .before .before .before .before .store-head .ensures, length-tabulate)
 
 pub store-spec : {M : Type 1} → statement M
 store-spec =

@@ -1,10 +1,8 @@
 -- `table::sites::pop` meets its contract, by what comes back of the channel. Assumes nothing.
-use mathlib.Core.Path.{subst}
-use Prim.Native.Nat.{_<_}
 use native.Mathlib.Omega.{arith}
 use borrow.Author.Needs.{needs}
 use Rattle.codec.proofs.Part.{lent-back}
-use Rattle.table.specs.Channel.{waitIn, popped}
+use Rattle.table.specs.Channel.{popped}
 use Rattle.table.specs.Parts.{channelAt, onChannel}
 use Rattle.table.proofs.Lent.{channel-lent}
 use Rattle.table.proofs.sites.pop.Statement.{statement}
@@ -38,7 +36,7 @@ pop-requires : tie.Need-pop-requires
 pop-requires c κs =
     let s = c .before .before in
     let a = s .args in
-    (search needs, subst (λ b. 0 < waitIn b) (channel-lent (a .site .now) (a .p) (a .d) (omega arith) (omega arith)) (s .pre .3))
+    (search needs, rw (← channel-lent (a .site .now) (a .p) (a .d) (omega arith) (omega arith)) (s .pre .3))
 
 same-length : tie.Need-same-length
 same-length c = search needs

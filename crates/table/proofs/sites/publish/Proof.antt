@@ -2,14 +2,13 @@
 use mathlib.Core.Path.{_∙_}
 use native.Mathlib.Omega.{arith}
 use borrow.Author.Needs.{needs}
-use Rattle.codec.specs.Part.{Keeps}
 use Rattle.table.specs.Put.{publishedOn}
 use Rattle.table.specs.Values.{asMessage}
-use Rattle.table.specs.Node.{published}
-use Rattle.table.proofs.Beside.{free-onNode}
-use Rattle.table.proofs.Lengths.{length-published}
+use Rattle.table.proofs.Beside.{free-published}
 use Rattle.table.proofs.sites.publish.Statement.{statement}
 use Rattle.table.proofs.sites.publish.Tie as tie
+
+-- `table::sites::publish` meets its contract, by what its two callees ensure. Assumes nothing.
 
 publish-node-requires : tie.Need-publish-node-requires
 publish-node-requires c κs = search needs
@@ -22,8 +21,7 @@ send-requires c κs =
     let k = c .before .before .before in
     let s = k .before .before .before in
     let a = s .args in
-    let keeps : Keeps 1856 (published (a .m) (asMessage (a .x))) = λ b e. length-published (a .m) (asMessage (a .x)) b ∙ e in
-    let free = free-onNode (published (a .m) (asMessage (a .x))) (a .site .now) (a .p) (s .pre .0) (omega arith) (a .n) (omega arith) keeps (s .pre .5) in
+    let free = free-published (a .m) (asMessage (a .x)) (a .site .now) (a .p) (a .n) (s .pre .0) (omega arith) (omega arith) (s .pre .5) in
     (omega arith, omega arith, omega arith, rw (k .publish-node .ensures) free)
 
 same-length : tie.Need-same-length

@@ -1,9 +1,7 @@
 -- `table::sites::publish_node` meets its contract, by what comes back of the node. Assumes nothing.
-use mathlib.Core.Path.{subst}
 use native.Mathlib.Omega.{arith}
 use borrow.Author.Needs.{needs}
 use Rattle.codec.proofs.Part.{lent-back}
-use Rattle.table.specs.Room.{Room}
 use Rattle.table.specs.Values.{asMessage}
 use Rattle.table.specs.Node.{published}
 use Rattle.table.specs.Parts.{nodeAt, onNode}
@@ -30,7 +28,7 @@ publish-requires : tie.Need-publish-requires
 publish-requires c κs =
     let s = c .before .before in
     let a = s .args in
-    (search needs, omega arith, subst (Room (asMessage (a .x))) (node-lent (a .site .now) (a .p) (omega arith)) (s .pre .3))
+    (search needs, omega arith, rw (← node-lent (a .site .now) (a .p) (omega arith)) (s .pre .3))
 
 same-length : tie.Need-same-length
 same-length c = search needs

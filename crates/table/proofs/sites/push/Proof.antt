@@ -1,10 +1,8 @@
 -- `table::sites::push` meets its contract, by what comes back of the channel. Assumes nothing.
-use mathlib.Core.Path.{subst}
-use Prim.Native.Nat.{_<_}
 use native.Mathlib.Omega.{arith}
 use borrow.Author.Needs.{needs}
 use Rattle.codec.proofs.Part.{lent-back}
-use Rattle.table.specs.Channel.{waitIn, pushed}
+use Rattle.table.specs.Channel.{pushed}
 use Rattle.table.specs.Values.{asMessage}
 use Rattle.table.specs.Parts.{channelAt, onChannel}
 use Rattle.table.proofs.Lent.{channel-lent}
@@ -39,7 +37,7 @@ push-requires : tie.Need-push-requires
 push-requires c κs =
     let s = c .before .before in
     let a = s .args in
-    (search needs, subst (λ b. waitIn b < 8) (channel-lent (a .site .now) (a .p) (a .d) (omega arith) (omega arith)) (s .pre .3))
+    (search needs, rw (← channel-lent (a .site .now) (a .p) (a .d) (omega arith) (omega arith)) (s .pre .3))
 
 same-length : tie.Need-same-length
 same-length c = search needs

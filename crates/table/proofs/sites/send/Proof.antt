@@ -1,12 +1,12 @@
 -- `table::sites::send` meets its contract: the message is in the first d channels. Assumes nothing.
-use mathlib.Core.Path.{_≡_, refl, sym, ap, _∙_}
-use Prim.Native.Nat.{_+_, _-_, _≤_}
+use mathlib.Core.Path.{_≡_, refl, sym, _∙_}
+use Prim.Native.Nat.{_-_, _≤_}
 use native.Mathlib.Omega.{arith}
 use borrow.Author.Needs.{needs}
 use lib.ListN.{length}
 use Rattle.table.specs.Values.{asMessage}
 use Rattle.table.specs.Put.{sentTo}
-use Rattle.table.proofs.Sent.{sent-none, sent-step, length-sent, channel-sent}
+use Rattle.table.proofs.Sent.{sent-none, sent-step, channel-sent}
 use Rattle.table.proofs.sites.send.Statement.{statement}
 use Rattle.table.proofs.sites.send.Tie as tie
 
@@ -35,13 +35,9 @@ loop-less c = search needs
 
 loop-again : tie.Need-loop-again Inv-loop μ-loop
 loop-again c =
-    let k = c .before .before .push in
-    let l = c .before .before .before .before .before in
-    let s = l .before .before in
-    let a = s .args in
-    let e : k .last .0 ≡ sentTo (l .loop .d + 1) (a .m) (a .p) (asMessage (a .x)) (a .site .now) = k .ensures ∙ rw (l .loop .inv .2) (sym (sent-step _ _ _ _ _)) in
-    let kept = length-sent (a .m) (a .p) (asMessage (a .x)) (a .site .now) (s .pre .0) (s .pre .2) (l .loop .d + 1) (omega arith) in
-    (omega arith, ap length e ∙ kept ∙ sym (s .pre .0), e)
+    let k = c .before .before in
+    let l = k .before .before .before in
+    (omega arith, omega arith, k .push .ensures ∙ rw (l .loop .inv .2) (sym (sent-step _ _ _ _ _)))
 
 same-length : tie.Need-same-length Inv-loop μ-loop
 same-length c = search needs

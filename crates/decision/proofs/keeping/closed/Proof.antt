@@ -1,12 +1,10 @@
--- `decision::answers::closed` meets its contract. Assumes nothing.
+-- `decision::keeping::closed` meets its contract. Assumes nothing.
 use Rattle.protocol.specs.State.{noPage, closed}
 use Rattle.table.specs.Tabulate.{tabulate}
 use Rattle.table.specs.Values.{asSession}
 use Rattle.table.proofs.Values.{entry-zeros}
-use Rattle.decision.proofs.answers.closed.Statement.{statement}
-use Rattle.decision.proofs.answers.closed.Tie as tie
-use Rattle.decision.proofs.answers.closed.Reads as reads
-use Rattle.decision.proofs.answers.closed.Lts as lts
+use Rattle.decision.proofs.keeping.closed.Statement.{statement}
+use Rattle.decision.proofs.keeping.closed.Tie as tie
 
 returns : tie.Need-returns
 unfolding asSession closed noPage tabulate

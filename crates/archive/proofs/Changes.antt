@@ -1,0 +1,263 @@
+-- Each of the four changes writes the same bytes at the same places of two tables that agree on what it looks at. In order: what is done to a node, to
+-- a channel, to a site that sends; what a change looks at (`Seen`), and the numbers found there; each change, and many. Assumes nothing.
+use Prim.Native.Nat.{ℕ, zero, suc, _+_, _*_, _-_, _%_, _≤_, _<_, max}
+use native.Mathlib.Omega.{arith}
+use mathlib.Core.Path.{_≡_, sym, ap, _∙_}
+use mathlib.Core.List.{List, [], _∷_}
+use lib.ListN.{length}
+use Rattle.codec.specs.Le.{load, put}
+use Rattle.codec.specs.Part.{Keeps}
+use Rattle.codec.proofs.Le.{load-put-other}
+use Rattle.vector.specs.Vec.{width}
+use Rattle.vector.proofs.Entries.{loadVec-below}
+use Rattle.protocol.specs.Record.{Msg, Update, Beat, stampIn}
+use Rattle.protocol.specs.State.{Session}
+use Rattle.protocol.specs.Promises.{SiteAlike}
+use Rattle.protocol.specs.Change.{Change, SetSession, SetClock, Publish, Receive}
+use Rattle.table.specs.Parts.{tableLength, placeOf, sessionOf, siteOf, nodeOf, channelOf, onSession, onSite, onNode, onChannel}
+use Rattle.table.specs.Node.{heardIn, heldIn, slotAt, clockSet, stored, published, received}
+use Rattle.table.specs.Channel.{ringAt, frontIn, waitIn, pushed, popped}
+use Rattle.table.specs.Session.{putSession}
+use Rattle.table.specs.Decode.{settingIn, decode}
+use Rattle.table.specs.Put.{sentTo, publishedOn, putChange, putChanges}
+use Rattle.table.specs.Fits.{FitsPublish, FitsReceive, Fits, FitsAll}
+use Rattle.table.proofs.Lengths.{length-putSession, length-clockSet, length-published, length-received, length-pushed, length-popped}
+use Rattle.table.proofs.Parts.{length-session, length-site, length-node, length-channel, length-onSite, length-onNode, channel-onNode, length-nodeOf, length-channelOf}
+use Rattle.table.proofs.Changes.{place-lt, onNode-keeps, channel-atNode, onChannel-keeps, publishedOn-keeps}
+use Rattle.table.proofs.Sent.{length-sent, channel-sent}
+use Rattle.table.proofs.Decode.{length-putChange}
+use Rattle.lawful.proofs.Facts.{store-length}
+use Rattle.lawful.proofs.Fits.{other-at, chan-length}
+use Rattle.archive.specs.Influence.{NextAlike}
+use Rattle.archive.proofs.Writes.{Twin, Both, twin-none, twin-then, twin-put, twin-putRecord, twin-putMessage, twin-putSession, twin-onSession, twin-onSite, twin-onNode, twin-onChannel}
+
+-- ---- a node
+
+held-heard : (n : List ℕ) (i x : ℕ) → i < 4 → heldIn (put 8 n (8 + 8 * i) x) ≡ heldIn n
+unfolding heldIn
+held-heard n i x h = load-put-other 1 8 n (8 + 8 * i) x 40 (λ k a b c d. omega arith)
+
+twin-stored : (x : Msg) {s s′ r r′ : List ℕ} → Twin s s′ r r′ → heldIn s′ ≡ heldIn r′ → Twin s (stored x s′) r (stored x r′)
+unfolding stored
+twin-stored (Update q) {s} {s′} {r} {r′} a e = rw e (twin-put 1 40 (heldIn r′ + 1) (twin-putRecord (slotAt (heldIn r′)) q a))
+twin-stored (Beat t) a e = a
+
+module _ (n k : List ℕ) (i : ℕ) (h : i < 4) (x : Msg) (l : length n ≡ length k) (e : heldIn n ≡ heldIn k) where
+  -- entry i set to v, and the message stored
+  twin-entered : (v : ℕ) → Twin n (stored x (put 8 n (8 + 8 * i) v)) k (stored x (put 8 k (8 + 8 * i) v))
+  twin-entered v = twin-stored x (twin-put 8 (8 + 8 * i) v (twin-none n k l)) (held-heard n i v h ∙ e ∙ sym (held-heard k i v h))
+
+  twin-published : Twin n (published i x n) k (published i x k)
+  unfolding published
+  twin-published = twin-entered (stampIn x)
+
+  twin-received : load 8 n (8 + 8 * i) ≡ load 8 k (8 + 8 * i) → Twin n (received i x n) k (received i x k)
+  unfolding received
+  twin-received g = rw g (twin-entered (max (load 8 k (8 + 8 * i)) (stampIn x)))
+
+-- ---- a channel: as many messages wait, and the next goes to the same place
+
+record Next (c b : List ℕ) : Type 0 where
+  wait : waitIn c ≡ waitIn b
+  place : (frontIn c + waitIn c) % 8 ≡ (frontIn b + waitIn b) % 8
+
+twin-pushed : (m : ℕ) (x : Msg) (c b : List ℕ) → length c ≡ length b → Next c b → Twin c (pushed m x c) b (pushed m x b)
+unfolding pushed
+twin-pushed m x c b l e = rw (e .place, e .wait) (twin-put 1 1 (waitIn b + 1) (twin-putMessage (ringAt (frontIn b) (waitIn b)) m x (twin-none c b l)))
+
+twin-popped : (c b : List ℕ) → length c ≡ length b → waitIn c ≡ waitIn b → frontIn c % 8 ≡ frontIn b % 8 → Twin c (popped c) b (popped b)
+unfolding popped
+twin-popped c b l e g =
+    let f : (frontIn c + 1) % 8 ≡ (frontIn b + 1) % 8 = omega arith in
+    rw (f, e) (twin-put 1 1 (waitIn b - 1) (twin-put 1 0 ((frontIn b + 1) % 8) (twin-none c b l)))
+
+popped-keeps : Keeps 464 popped
+popped-keeps c e = length-popped c ∙ e
+
+-- ---- a site that sends: into the first n channels of partition p
+
+abbrev Ways : (n p : ℕ) (s r : List ℕ) → Type 0
+Ways n p s r = (d : ℕ) → d < n → Next (channelOf s p d) (channelOf r p d)
+
+module _ (m p : ℕ) (x : Msg) (h : p < 4) (s r : List ℕ) (l : length s ≡ 13056) (l′ : length r ≡ 13056) where
+  pushed-keeps : Keeps 464 (pushed m x)
+  pushed-keeps c e = length-pushed m x c ∙ e
+
+  twin-way : (d : ℕ) → d < 3 → Next (channelOf s p d) (channelOf r p d) → Both (pushed m x) (channelOf s p d) (channelOf r p d)
+  twin-way d b e = twin-pushed m x (channelOf s p d) (channelOf r p d) (length-channel s p d l h b ∙ sym (length-channel r p d l′ h b)) e .writes
+
+  -- the channels that the message has not come to are as they were
+  twin-sentTo : (n : ℕ) → n ≤ 3 → Ways n p s r → Twin s (sentTo n m p x s) r (sentTo n m p x r)
+  unfolding sentTo
+  twin-sentTo zero b w = twin-none s r (l ∙ sym l′)
+  twin-sentTo (suc n) b w =
+      let few : n ≤ 3 = omega arith in
+      let here : n < 3 = omega arith in
+      let there : n ≤ n = omega arith in
+      twin-then (twin-sentTo n few (λ d g. w d (omega arith)))
+      (twin-onChannel (pushed m x) (sentTo n m p x s) (sentTo n m p x r) p (length-sent m p x s l h n few) (length-sent m p x r l′ h n few) h n here pushed-keeps
+      (rw (channel-sent m p x s l h n n there here, channel-sent m p x r l′ h n n there here) (twin-way n here (w n (omega arith)))))
+
+module _ (m p : ℕ) (x : Msg) (h : p < 4) (s r : List ℕ) (l : length s ≡ 13056) (l′ : length r ≡ 13056) where
+  abbrev own : List ℕ → List ℕ
+  own = onNode p (published m x)
+
+  published-keeps : Keeps 1856 (published m x)
+  published-keeps c e = length-published m x c ∙ e
+
+  length-own : (v : List ℕ) → length v ≡ 13056 → length (own v) ≡ 13056
+  length-own v k = length-onNode v p (published m x) k h published-keeps ∙ k
+
+  twin-own : m < 4 → heldIn (nodeOf s p) ≡ heldIn (nodeOf r p) → Twin s (own s) r (own r)
+  twin-own g e =
+      twin-onNode (published m x) s r p l l′ h published-keeps
+      (twin-published (nodeOf s p) (nodeOf r p) m g x (length-node s p l h ∙ sym (length-node r p l′ h)) e .writes)
+
+  ways-own : (n : ℕ) → Ways n p s r → Ways n p (own s) (own r)
+  ways-own n w d b =
+      rw (channel-onNode s p (published m x) l h published-keeps p d, channel-onNode r p (published m x) l′ h published-keeps p d) (w d b)
+
+  twin-publishedOn : (n : ℕ) → n ≤ 3 → m < 4 → heldIn (nodeOf s p) ≡ heldIn (nodeOf r p) → Ways n p s r → Twin s (publishedOn n m p x s) r (publishedOn n m p x r)
+  unfolding publishedOn
+  twin-publishedOn n b g e w = twin-then (twin-own g e) (twin-sentTo m p x h (own s) (own r) (length-own s l) (length-own r l′) n b (ways-own n w))
+
+-- ---- what a change looks at
+
+-- the tables agree on the nodes of site m and on how full their outgoing channels are
+abbrev pub AlikeAt : (t u : List ℕ) (m : ℕ) → Type 0
+AlikeAt t u m = SiteAlike (decode t .net) (decode u .net) m
+
+-- where the front of the channel from site i to site m stands
+abbrev frontOf : List ℕ → (i m p : ℕ) → ℕ
+frontOf t i m p = frontIn (channelOf (siteOf t i) p (placeOf i m)) % 8
+
+abbrev pub Seen : Change → (t u : List ℕ) → Type 0
+Seen (SetSession s x) t u = Unit {0}
+Seen (SetClock m p c) t u = Unit {0}
+Seen (Publish m p x) t u = AlikeAt t u m × NextAlike t u m
+Seen (Receive i m p x) t u = AlikeAt t u m × (decode t .net .chan i m p ≡ decode u .net .chan i m p) × (frontOf t i m p ≡ frontOf u i m p)
+
+-- each change looks at the tables that those before it leave
+abbrev pub SeenAll : List Change → (t u : List ℕ) → Type 0
+SeenAll [] t u = Unit {0}
+SeenAll (c ∷ cs) t u = Seen c t u × SeenAll cs (putChange c t) (putChange c u)
+
+-- ---- and the numbers that it thereby finds the same
+
+module _ (t u : List ℕ) where
+  same-sites : (m : ℕ) → AlikeAt t u m → load 1 t 0 ≡ load 1 u 0
+  unfolding decode settingIn
+  same-sites m a = ap (λ c. c .sites) (a .setting)
+
+  same-held : (m p : ℕ) → AlikeAt t u m → heldIn (nodeOf (siteOf t m) p) ≡ heldIn (nodeOf (siteOf u m) p)
+  same-held m p a = sym (store-length t m p) ∙ ap length (a .store p) ∙ store-length u m p
+
+  same-heard : (m p i : ℕ) → i < 4 → AlikeAt t u m → load 8 (nodeOf (siteOf t m) p) (8 + 8 * i) ≡ load 8 (nodeOf (siteOf u m) p) (8 + 8 * i)
+  unfolding decode heardIn width
+  same-heard m p i h a = sym (loadVec-below (nodeOf (siteOf t m) p) 8 i h) ∙ a .heard p i ∙ loadVec-below (nodeOf (siteOf u m) p) 8 i h
+
+  -- as many messages wait from site i to site m
+  same-wait : (i m p : ℕ) → m < 4 → (i ≡ m → ⊥) → length (decode t .net .chan i m p) ≡ length (decode u .net .chan i m p)
+      → waitIn (channelOf (siteOf t i) p (placeOf i m)) ≡ waitIn (channelOf (siteOf u i) p (placeOf i m))
+  same-wait i m p h d e = sym (chan-length t i m p h d) ∙ e ∙ chan-length u i m p h d
+
+  same-next : (n m p d : ℕ) → m < n → n ≤ 4 → p < 4 → d < n - 1 → AlikeAt t u m → NextAlike t u m → Next (channelOf (siteOf t m) p d) (channelOf (siteOf u m) p d)
+  unfolding NextAlike
+  same-next n m p d h few g b a next =
+      let o = other-at n m d h b in
+      let w = same-wait m (o .site) p (omega (arith, o .there)) (λ q. o .other (sym q)) (a .sent p (o .site)) in
+      record { wait = rw (← o .place) w; place = next p d g (omega arith) }
+
+-- ---- something done to a session, a node, a channel of both tables
+
+module _ (t u : List ℕ) (l : length t ≡ tableLength) (l′ : length u ≡ tableLength) where
+  twin-atSession : (s : ℕ) (x : Session) → s < 16 → Twin t (onSession s (putSession x) t) u (onSession s (putSession x) u)
+  twin-atSession s x h =
+      twin-onSession (putSession x) t u l l′ s h (λ b e. length-putSession x b ∙ e)
+      (twin-putSession x (twin-none (sessionOf t s) (sessionOf u s) (length-session t s l h ∙ sym (length-session u s l′ h))) .writes)
+
+  same-node : (m p : ℕ) → m < 4 → p < 4 → length (nodeOf (siteOf t m) p) ≡ length (nodeOf (siteOf u m) p)
+  same-node m p h g = length-nodeOf t m p l h g ∙ sym (length-nodeOf u m p l′ h g)
+
+  same-channel : (i p d : ℕ) → i < 4 → p < 4 → d < 3 → length (channelOf (siteOf t i) p d) ≡ length (channelOf (siteOf u i) p d)
+  same-channel i p d h g b = length-channelOf t i p l h g d b ∙ sym (length-channelOf u i p l′ h g d b)
+
+  module _ (f : List ℕ → List ℕ) (m p : ℕ) (h : m < 4) (g : p < 4) where
+    twin-atNode : Keeps 1856 f → Both f (nodeOf (siteOf t m) p) (nodeOf (siteOf u m) p) → Twin t (onSite m (onNode p f) t) u (onSite m (onNode p f) u)
+    twin-atNode keeps a =
+        twin-onSite (onNode p f) t u l l′ m h (onNode-keeps t m p f l h g keeps)
+        (twin-onNode f (siteOf t m) (siteOf u m) p (length-site t m l h) (length-site u m l′ h) g keeps a .writes)
+
+    twin-atChannel : (d : ℕ) → d < 3 → Keeps 464 f → Both f (channelOf (siteOf t m) p d) (channelOf (siteOf u m) p d) → Twin t (onSite m (onChannel p d f) t) u (onSite m (onChannel p d f) u)
+    twin-atChannel d b keeps a =
+        twin-onSite (onChannel p d f) t u l l′ m h (onChannel-keeps t m p d f l h g b keeps)
+        (twin-onChannel f (siteOf t m) (siteOf u m) p (length-site t m l h) (length-site u m l′ h) g d b keeps a .writes)
+
+-- ---- the changes
+
+module _ (t u : List ℕ) (l : length t ≡ tableLength) (l′ : length u ≡ tableLength) where
+  twin-clock : (m p c : ℕ) → m < 4 → p < 4 → Twin t (onSite m (onNode p (clockSet c)) t) u (onSite m (onNode p (clockSet c)) u)
+  unfolding clockSet
+  twin-clock m p c h g =
+      twin-atNode t u l l′ (clockSet c) m p h g (λ n e. length-clockSet c n ∙ e)
+      (twin-put 8 0 c (twin-none (nodeOf (siteOf t m) p) (nodeOf (siteOf u m) p) (same-node t u l l′ m p h g)) .writes)
+
+  twin-publish : (m p : ℕ) (x : Msg) → FitsPublish m p x t → AlikeAt t u m → NextAlike t u m → Twin t (putChange (Publish m p x) t) u (putChange (Publish m p x) u)
+  unfolding putChange
+  twin-publish m p x fit a next =
+      let n = load 1 t 0 - 1 in
+      let h : m < 4 = omega (arith, fit .site, fit .sites) in
+      let b : n ≤ 3 = omega (arith, fit .sites) in
+      rw (← same-sites t u m a)
+      (twin-onSite (publishedOn n m p x) t u l l′ m h (publishedOn-keeps t n m p x l h (fit .part) b)
+      (twin-publishedOn m p x (fit .part) (siteOf t m) (siteOf u m) (length-site t m l h) (length-site u m l′ h) n b h (same-held t u m p a)
+      (λ d c. same-next t u (load 1 t 0) m p d (fit .site) (fit .sites) (fit .part) c a next) .writes))
+
+  -- the node stores and hears, then the message leaves the other site's channel, which is as it was
+  twin-receive : (i m p : ℕ) (x : Msg) → FitsReceive i m p x t → Seen (Receive i m p x) t u → Twin t (putChange (Receive i m p x) t) u (putChange (Receive i m p x) u)
+  unfolding putChange
+  twin-receive i m p x fit seen =
+      twin-then (twin-atNode t u l l′ (received i x) m p (fit .site) (fit .part) keeps (node .writes))
+      (twin-atChannel (f t) (f u) (long t l) (long u l′) popped i p (fit .source) (fit .part) d b popped-keeps (rw (beside t l, beside u l′) (channel .writes)))
+    where
+      d : ℕ
+      d = placeOf i m
+
+      b : d < 3
+      b = place-lt 4 i m (fit .source) (fit .site) (fit .other)
+
+      f : List ℕ → List ℕ
+      f = onSite m (onNode p (received i x))
+
+      keeps : Keeps 1856 (received i x)
+      keeps n e = length-received i x n ∙ e
+
+      long : (v : List ℕ) → length v ≡ tableLength → length (f v) ≡ tableLength
+      long v k = length-onSite v m (onNode p (received i x)) k (fit .site) (onNode-keeps v m p (received i x) k (fit .site) (fit .part) keeps) ∙ k
+
+      beside : (v : List ℕ) → length v ≡ tableLength → channelOf (siteOf (f v) i) p d ≡ channelOf (siteOf v i) p d
+      beside v k = channel-atNode v m p (received i x) k (fit .site) (fit .part) keeps i p d
+
+      node : Twin (nodeOf (siteOf t m) p) (received i x (nodeOf (siteOf t m) p)) (nodeOf (siteOf u m) p) (received i x (nodeOf (siteOf u m) p))
+      node =
+          twin-received (nodeOf (siteOf t m) p) (nodeOf (siteOf u m) p) i (fit .source) x (same-node t u l l′ m p (fit .site) (fit .part)) (same-held t u m p (seen .0))
+          (same-heard t u m p i (fit .source) (seen .0))
+
+      channel : Twin (channelOf (siteOf t i) p d) (popped (channelOf (siteOf t i) p d)) (channelOf (siteOf u i) p d) (popped (channelOf (siteOf u i) p d))
+      channel =
+          twin-popped (channelOf (siteOf t i) p d) (channelOf (siteOf u i) p d) (same-channel t u l l′ i p d (fit .source) (fit .part) b)
+          (same-wait t u i m p (fit .site) (fit .other) (ap length (seen .1))) (seen .2)
+
+twin-change : (c : Change) (t u : List ℕ) → length t ≡ tableLength → length u ≡ tableLength → Fits c t → Seen c t u → Twin t (putChange c t) u (putChange c u)
+unfolding putChange
+twin-change (SetSession s x) t u l l′ fit seen = twin-atSession t u l l′ s x (fit .0)
+twin-change (SetClock m p c) t u l l′ fit seen = twin-clock t u l l′ m p c (fit .0) (fit .1)
+twin-change (Publish m p x) t u l l′ fit seen = twin-publish t u l l′ m p x fit (seen .0) (seen .1)
+twin-change (Receive i m p x) t u l l′ fit seen = twin-receive t u l l′ i m p x fit seen
+
+pub twin-changes : (cs : List Change) (t u : List ℕ) → length t ≡ tableLength → length u ≡ tableLength → FitsAll cs t → FitsAll cs u → SeenAll cs t u → Twin t (putChanges cs t) u (putChanges cs u)
+unfolding putChanges
+twin-changes [] t u l l′ fit fit′ seen = twin-none t u (l ∙ sym l′)
+twin-changes (c ∷ cs) t u l l′ fit fit′ seen =
+    twin-then (twin-change c t u l l′ (fit .0) (seen .0))
+    (twin-changes cs (putChange c t) (putChange c u) (length-putChange c t l (fit .0) ∙ l) (length-putChange c u l′ (fit′ .0) ∙ l′) (fit .1) (fit′ .1) (seen .1))

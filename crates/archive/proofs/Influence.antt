@@ -1,0 +1,125 @@
+-- What may influence a step, on bytes. In order: a step; what its changes look at; refusals and the call. Assumes nothing.
+use Prim.Native.Nat.{ℕ}
+use mathlib.Core.Path.{_≡_, refl, sym, ap, subst, _∙_}
+use mathlib.Core.Bool.{Bool, true, false, not, _&&_}
+use mathlib.Core.List.{List, [], _∷_, _++_}
+use lib.Dec.{T, eqb}
+use lib.ListN.{length}
+use mir.Facts.{and-yes, yes-and}
+use Rattle.codec.specs.Le.{Bytes}
+use Rattle.vector.proofs.Tests.{cond-elim}
+use Rattle.protocol.specs.Record.{Msg}
+use Rattle.protocol.specs.Event.{Event, OPEN, CLOSE, CLOCK, GET, PUT, BEGIN, READ, END, BEAT, DELIVER}
+use Rattle.protocol.specs.View.{Place, ofSession, atSite, onChannel, look, viewAt, view, place}
+use Rattle.protocol.specs.Needs.{beatSends, ranges, needs}
+use Rattle.protocol.specs.Change.{Receive}
+use Rattle.protocol.specs.Serve.{taken, serve}
+use Rattle.protocol.specs.Step.{decide, step}
+use Rattle.protocol.specs.Promises.{Alike}
+use Rattle.protocol.proofs.Judge.{Met, met-both, judge-elim}
+use Rattle.protocol.proofs.Influence as Protocol
+use Rattle.table.specs.Parts.{tableLength}
+use Rattle.table.specs.Decode.{settingIn, decode}
+use Rattle.table.specs.Put.{putChanges}
+use Rattle.table.specs.Fits.{FitsAll}
+use Rattle.table.proofs.Changes.{same-test}
+use Rattle.lawful.specs.WellFormed.{wellFormed}
+use Rattle.lawful.proofs.Fits.{step-fits}
+use Rattle.event.specs.Event.{codeLawful, eventOf}
+use Rattle.event.specs.Fields.{unusedZero}
+use Rattle.steps.specs.Step.{Called, gives, need, stepOn}
+use Rattle.archive.specs.Call.{stepCall}
+use Rattle.archive.specs.Story.{isEvent}
+use Rattle.archive.specs.Influence.{SameWrites, SameStep, AgreeOn, Influenced}
+use Rattle.archive.proofs.Writes.{writes-none}
+use Rattle.archive.proofs.Changes.{Seen, SeenAll, twin-changes}
+use Rattle.archive.proofs.Closed.{shut-alike}
+
+-- ---- a step
+
+module _ (t u : List ℕ) (q : settingIn t ≡ settingIn u) where
+  shut-step : (e : Event) (s : ℕ) → place e ≡ ofSession s → decode t .session s ≡ decode u .session s → T (not (decode t .session s .isOpen)) → step (decode t) e ≡ step (decode u) e
+  unfolding step view viewAt
+  shut-step e s d a z =
+      rw d
+      (shut-alike (decode t .net) (decode u .net) (decode t .session s) (decode t .session s .site) (decode t .session s .site) (unfold decode in q) z e s d
+      ∙ ap (λ x. decide (look (decode u .net) x (x .site) []) e) a)
+
+  agree-step : (e : Event) → AgreeOn t u (place e) → step (decode t) e ≡ step (decode u) e
+  unfolding AgreeOn Alike
+  agree-step e = go (place e) refl
+    where
+      seen : (P : Place) → place e ≡ P → Alike (decode t) (decode u) P → step (decode t) e ≡ step (decode u) e
+      seen P d a = Protocol.influenced (decode t) (decode u) e (subst (Alike (decode t) (decode u)) (sym d) a)
+
+      session : (s : ℕ) → place e ≡ ofSession s → AgreeOn t u (ofSession s) → (b : Bool) → (T b → T (decode t .session s .isOpen)) → (T (not b) → T (not (decode t .session s .isOpen))) → step (decode t) e ≡ step (decode u) e
+      session s d a true f g = seen (ofSession s) d (a .0, a .1 (f tt) .0)
+      session s d a false f g = shut-step e s d (a .0) (g tt)
+
+      go : (P : Place) → place e ≡ P → AgreeOn t u P → step (decode t) e ≡ step (decode u) e
+      go (ofSession s) d a = session s d a (decode t .session s .isOpen) (λ y. y) (λ y. y)
+      go (atSite m) d a = seen (atSite m) d (a .0)
+      go (onChannel i m p) d a = seen (onChannel i m p) d (a .0)
+
+-- ---- what its changes look at
+
+taken-seen : (t u : List ℕ) (i m p : ℕ) (l : List Msg) → ((x : Msg) → Seen (Receive i m p x) t u) → SeenAll (taken i m p l) t u
+unfolding taken
+taken-seen t u i m p [] f = tt
+taken-seen t u i m p (x ∷ l) f = (f x, tt)
+
+module _ (t u : List ℕ) where
+  agree-serve : (e : Event) → AgreeOn t u (place e) → Met (needs (view (decode t) e) e) → SeenAll (serve (view (decode t) e) e .changes) t u
+  unfolding place view viewAt look serve needs AgreeOn Alike
+  agree-serve (OPEN s m) a met = (tt, tt)
+  agree-serve (CLOSE s) a met = (tt, tt)
+  agree-serve (CLOCK m p c) a met = (tt, tt)
+  agree-serve (GET s k) a met = (tt, tt)
+  agree-serve (PUT s k h l) a met = (a .1 (met .0), (tt, tt))
+  agree-serve (BEGIN s p ks) a met = (tt, tt)
+  agree-serve (READ s k) a met = (tt, tt)
+  agree-serve (END s) a met = (tt, tt)
+  agree-serve (BEAT m p) a met = cond-elim (λ cs. SeenAll cs t u) (beatSends (decode t .net .heard m p m) (decode t .net .clock m p)) (λ b. (a, tt)) (λ b. tt)
+  agree-serve (DELIVER i m p) a met = taken-seen t u i m p (decode t .net .chan i m p) (λ x. (a .0 .0, a .0 .1, a .1))
+
+  agree-seen : (e : Event) → AgreeOn t u (place e) → SeenAll (step (decode t) e .changes) t u
+  unfolding step decide
+  agree-seen e a =
+      let v = view (decode t) e in
+      judge-elim (λ o. SeenAll (o .changes) t u) (ranges (v .setting) e ++ needs v e) (serve v e) (λ n. tt) (λ met. agree-serve e a (met-both (ranges (v .setting) e) (needs v e) met .1))
+
+-- ---- refusals and the call
+
+abbrev stepped : List ℕ → Event → Called
+stepped t e = gives (step (decode t) e .says) (putChanges (step (decode t) e .changes) t)
+
+same-need : (t u : List ℕ) (b b′ : Bool) (n : ℕ) (c d : Called) → b ≡ b′ → (T b → SameStep t u c d) → SameStep t u (need b n t c) (need b′ n u d)
+same-need t u b b′ n c d e s = subst (λ k. SameStep t u (need b n t c) (need k n u d)) e (go b s)
+  where
+    go : (k : Bool) → (T k → SameStep t u c d) → SameStep t u (need k n t c) (need k n u d)
+    go true s = s tt
+    go false s = record { answer = refl; bytes = writes-none t u }
+
+module _ (t u : List ℕ) (l : length t ≡ tableLength) (l′ : length u ≡ tableLength) (b : Bytes t) (b′ : Bytes u) (w : T (wellFormed t)) (w′ : T (wellFormed u)) where
+  same-changes : (e : Event) → step (decode t) e ≡ step (decode u) e → SeenAll (step (decode t) e .changes) t u → SameStep t u (stepped t e) (stepped u e)
+  same-changes e q seen =
+      let cs = step (decode t) e .changes in
+      let fit : FitsAll cs u = subst (λ o. FitsAll (o .changes) u) (sym q) (step-fits u l′ b′ w′ e) in
+      record {
+        answer = ap (λ o. o .says) q;
+        bytes = subst (λ o. SameWrites t (putChanges cs t) u (putChanges (o .changes) u)) q (twin-changes cs t u l l′ (step-fits t l b w e) fit seen .writes);
+      }
+
+  -- the needs before the protocol's are the event's own
+  same-call : (e : List ℕ) → (T (isEvent e) → SameStep t u (stepped t (eventOf e)) (stepped u (eventOf e))) → SameStep t u (stepCall t e) (stepCall u e)
+  unfolding stepCall stepOn isEvent
+  same-call e f =
+      same-need t u (eqb (length t) tableLength && eqb (length e) 32) (eqb (length u) tableLength && eqb (length e) 32) 23 _ _ (ap (λ k. eqb k tableLength && eqb (length e) 32) (l ∙ sym l′))
+      (λ x. same-need t u (wellFormed t) (wellFormed u) 24 _ _ (same-test (wellFormed t) (wellFormed u) (λ y. w′) (λ y. w))
+      (λ y. same-need t u (codeLawful e) (codeLawful e) 10 _ _ refl
+      (λ c. same-need t u (unusedZero e) (unusedZero e) 11 _ _ refl
+      (λ z. f (yes-and (eqb (length e) 32) (codeLawful e && unusedZero e) (and-yes (eqb (length t) tableLength) (eqb (length e) 32) x .1) (yes-and (codeLawful e) (unusedZero e) c z))))))
+
+pub influenced : Influenced
+influenced t u e l l′ b b′ w w′ q a =
+    same-call t u l l′ b b′ w w′ e (λ i. same-changes t u l l′ b b′ w w′ (eventOf e) (agree-step t u q (eventOf e) (a i)) (agree-seen t u (eventOf e) (a i)))

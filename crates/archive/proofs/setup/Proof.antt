@@ -1,0 +1,69 @@
+-- `archive::setup` meets its contract: the tests by `setup-23`, `setup-11` and `setup-done`, the bytes by what `clear` and the two stores ensure.
+-- Assumes nothing.
+use mathlib.Core.Path.{_≡_, sym, ap, _∙_}
+use mathlib.Core.Bool.{true, false}
+use borrow.Author.Needs.{needs}
+use borrow.Author.Tests.{not-true, not-false}
+use Rattle.protocol.specs.declared.Answer.the-variants.{Done}
+use Rattle.lawful.specs.Values.{settingLawful}
+use Rattle.steps.specs.Step.{gives}
+use Rattle.archive.proofs.Calls.{setup-23, setup-11, setup-done}
+use Rattle.archive.proofs.setup.Statement.{statement}
+use Rattle.archive.proofs.setup.Tie as tie
+use Rattle.archive.proofs.setup.Reads as reads
+use Rattle.archive.proofs.setup.Lts as lts
+use Rattle.archive.proofs.clear.Reads as clear-reads
+use Rattle.archive.proofs.refused.Reads as refused-reads
+use Rattle.codec.proofs.store_le.Reads as store-le-reads
+
+refused-requires : tie.Need-refused-requires
+refused-requires c κs = search needs
+
+returns : tie.Need-returns
+returns c =
+    let a = c .before .before .before .args in
+    ap (λ r. gives r (a .table .now)) (c .refused .ensures) ∙ sym (setup-23 (a .table .now) (a .sites) (a .parts) (c .before .if1 .taken))
+
+refused-requires-2 : tie.Need-refused-requires-2
+refused-requires-2 c κs = search needs
+
+returns-2 : tie.Need-returns-2
+unfolding settingLawful
+returns-2 c =
+    let a = c .before .before .before .before .args in
+    ap (λ r. gives r (a .table .now)) (c .refused2 .ensures) ∙ sym (setup-11 (a .table .now) (a .sites) (a .parts) (search needs) (not-true _ (c .before .if2 .taken)))
+
+clear-requires : tie.Need-clear-requires
+clear-requires c κs = search needs
+
+store-le-requires : tie.Need-store-le-requires
+store-le-requires c κs = search needs
+
+store-le-requires-2 : tie.Need-store-le-requires-2
+store-le-requires-2 c κs = search needs
+
+same-length : tie.Need-same-length
+same-length c = search needs
+
+returns-3 : tie.Need-returns-3
+unfolding settingLawful
+returns-3 c =
+    let z = c .before .before in
+    let y = z .before .before .before .before in
+    let x = y .before .before .before .before in
+    let a = x .before .before .before .before .before .args in
+    ap (λ t. gives Done t) (z .store-le2 .ensures ∙ rw (y .store-le .ensures, x .clear .ensures)) ∙ sym (setup-done (a .table .now) (a .sites) (a .parts) (search needs) (not-false _ (x .before .before .if2 .left)))
+
+pub setup-spec : {M : Type 1} → statement M
+setup-spec =
+    tie.close
+    (tie.spec
+    refused-requires
+    returns
+    refused-requires-2
+    returns-2
+    clear-requires
+    store-le-requires
+    store-le-requires-2
+    same-length
+    returns-3)

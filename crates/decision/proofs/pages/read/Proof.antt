@@ -1,0 +1,183 @@
+-- `decision::pages::read` meets its contract: each return is a rung of the ladder. Assumes nothing.
+use mathlib.Core.Path.{_≡_, sym, _∙_}
+use mathlib.Core.Bool.{true}
+use borrow.Author.Tests.{not-true, not-false}
+use Rattle.vector.specs.Entries.{entry}
+use Rattle.protocol.specs.Record.{newest, fitsPage}
+use Rattle.protocol.specs.Event.{READ}
+use Rattle.protocol.specs.Needs.{readReady}
+use Rattle.protocol.specs.Serve.{readOn}
+use Rattle.table.specs.Values.{asSession}
+use Rattle.table.specs.Decode.{settingIn, decode}
+use Rattle.decision.specs.Found.{foundOf}
+use Rattle.decision.specs.Decided.{answered}
+use Rattle.decision.proofs.Places.{fits-page}
+use Rattle.decision.proofs.Ladders.{heardBy, storedBy, readOf, read-says}
+use borrow.Author.Needs.{needs}
+use Rattle.decision.proofs.pages.read.Statement.{statement}
+use Rattle.decision.proofs.pages.read.Tie as tie
+
+-- ---- what is known at the places of the code
+
+-- what is answered, by the session that was loaded
+says : (k : tie.After-session) → let a = k .before .before .args in
+    answered (decode (a .t .now)) (READ (a .s) (a .k)) ≡ readOf (a .t .now) (a .s) (a .k) (asSession (k .session .result))
+says k =
+    let a = k .before .before .args in
+    read-says (a .t .now) (a .s) (asSession (k .session .result)) (k .session .ensures .0) (a .k)
+
+is-open : (e : tie.Else1) → e .before .before .session .result .open ≡ true
+is-open e = not-false _ (e .if1 .left)
+
+is-paged : (e : tie.Else2) → e .before .before .before .before .session .result .paged ≡ true
+is-paged e = not-false _ (e .if2 .left)
+
+-- where the key's node is looked up
+loaded : tie.After-page → tie.After-session
+loaded c = c .before .before .before .before .before .before .before .before .before .before
+
+-- the test is the protocol's, of what the key's node has heard
+ready : (c : tie.After-at-most) → let k = loaded (c .before .before .before) in
+    let x = k .session .result in
+    let a = k .before .before .args in
+    c .at-most .result ≡ readReady (heardBy (a .t .now) (x .site) (a .k)) (entry (x .page .e))
+unfolding readReady loaded
+ready c = c .at-most .ensures ∙ rw (c .before .heard .ensures, c .before .before .partition .ensures .0)
+
+-- and what is found the newest of its records that fit the page
+shows : (c : tie.After-newest) → let k = loaded (c .before .before .before .before .before) in
+    let x = k .session .result in
+    let a = k .before .before .args in
+    foundOf (c .newest .result) ≡ newest (settingIn (a .t .now)) (fitsPage (a .k) (entry (x .page .e))) (storedBy (a .t .now) (x .site) (a .k))
+unfolding loaded
+shows c =
+    let k = loaded (c .before .before .before .before .before) in
+    c .newest .ensures .0 (settingIn (k .before .before .args .t .now)) ∙ rw (fits-page, c .before .before .before .before .partition .ensures .0)
+
+-- ---- the needs
+
+session-requires : tie.Need-session-requires
+session-requires c κs = search needs
+
+refused-requires : tie.Need-refused-requires
+refused-requires c κs = search needs
+
+returns : tie.Need-returns
+unfolding asSession
+returns c =
+    let k = c .before .before .before in
+    c .refused .ensures ∙ sym (says k ∙ rw (not-true (k .session .result .open) (c .before .if1 .taken)))
+
+refused-requires-2 : tie.Need-refused-requires-2
+refused-requires-2 c κs = search needs
+
+returns-2 : tie.Need-returns-2
+unfolding asSession
+returns-2 c =
+    let e = c .before .before .before in
+    let k = e .before .before in
+    c .refused2 .ensures ∙ sym (says k ∙ rw (is-open e, not-true (k .session .result .paged) (c .before .if2 .taken)))
+
+cast-count : tie.Need-cast-count
+cast-count c = search needs
+
+awaited-requires : tie.Need-awaited-requires
+awaited-requires c κs = search needs
+
+refused-requires-3 : tie.Need-refused-requires-3
+refused-requires-3 c κs = search needs
+
+returns-3 : tie.Need-returns-3
+unfolding asSession
+returns-3 c =
+    let u = c .before .before in
+    let e2 = u .before .before .before .before in
+    let e = e2 .before .before in
+    c .refused3 .ensures ∙ sym (says (e .before .before) ∙ rw (is-open e, is-paged e2, sym (u .awaited .ensures), not-true (u .awaited .result) (c .before .if3 .taken)))
+
+partition-requires : tie.Need-partition-requires
+partition-requires c κs = search needs
+
+heard-requires : tie.Need-heard-requires
+heard-requires c κs =
+    let e = c .before .before .before .before .before .before .before .before .before in
+    let k = e .before .before in
+    (k .before .before .pre .0, k .session .ensures .2 (is-open e), c .partition .ensures .1)
+
+at-most-requires : tie.Need-at-most-requires
+at-most-requires c κs = search needs
+
+refused-requires-4 : tie.Need-refused-requires-4
+refused-requires-4 c κs = search needs
+
+returns-4 : tie.Need-returns-4
+unfolding asSession loaded
+returns-4 c =
+    let r = c .before .before in
+    let e3 = r .before .before .before .before in
+    let u = e3 .before in
+    let e2 = u .before .before .before .before in
+    let e = e2 .before .before in
+    c .refused4 .ensures ∙ sym (says (e .before .before) ∙ rw (is-open e, is-paged e2, sym (u .awaited .ensures), not-false (u .awaited .result) (e3 .if3 .left), sym (ready r), not-true (r .at-most .result) (c .before .if4 .taken)))
+
+newest-requires : tie.Need-newest-requires
+newest-requires c κs =
+    let h = c .before .before in
+    let e = h .before .before .before .before .before .before .before .before .before .before in
+    let k = e .before .before in
+    (k .before .before .pre .0, k .before .before .pre .1, k .session .ensures .2 (is-open e), h .before .partition .ensures .1)
+
+raised-by-requires : tie.Need-raised-by-requires
+raised-by-requires c κs = search needs
+
+read-requires : tie.Need-read-requires
+read-requires c κs = unfold loaded in loaded (c .before .before .before .before .before .before .before) .session .ensures .1
+
+shown-requires : tie.Need-shown-requires
+shown-requires c κs = search needs
+
+read-on-requires : tie.Need-read-on-requires
+read-on-requires c κs = search needs
+
+kept-requires : tie.Need-kept-requires
+kept-requires c κs = search needs
+
+returns-5 : tie.Need-returns-5
+unfolding asSession readOn loaded
+returns-5 c =
+    let w = c .before in
+    let d = w .before .before in
+    let n = d .before .before .before in
+    let e4 = n .before in
+    let r = e4 .before in
+    let e3 = r .before .before .before .before in
+    let u = e3 .before in
+    let e2 = u .before .before .before .before in
+    let e = e2 .before .before in
+    c .kept .ensures ∙ sym (says (e .before .before) ∙ rw (is-open e, is-paged e2, sym (u .awaited .ensures), not-false (u .awaited .result) (e3 .if3 .left), sym (ready r), not-false (r .at-most .result) (e4 .if4 .left), w .read-on .ensures, w .before .shown .ensures, d .read .ensures, d .before .raised-by .ensures, shows n))
+
+pub read-spec : {M : Type 1} → statement M
+read-spec =
+    tie.close
+    (tie.spec
+    session-requires
+    refused-requires
+    returns
+    refused-requires-2
+    returns-2
+    cast-count
+    awaited-requires
+    refused-requires-3
+    returns-3
+    partition-requires
+    heard-requires
+    at-most-requires
+    refused-requires-4
+    returns-4
+    newest-requires
+    raised-by-requires
+    read-requires
+    shown-requires
+    read-on-requires
+    kept-requires
+    returns-5)

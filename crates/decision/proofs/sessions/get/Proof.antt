@@ -1,0 +1,140 @@
+-- `decision::sessions::get` meets its contract: each return is a rung of the ladder. Assumes nothing.
+use mathlib.Core.Path.{_≡_, sym, _∙_}
+use mathlib.Core.Bool.{true}
+use borrow.Author.Tests.{not-true, not-false}
+use Rattle.vector.specs.Entries.{entry}
+use Rattle.protocol.specs.Record.{newest, ofKey}
+use Rattle.protocol.specs.Event.{GET}
+use Rattle.protocol.specs.Needs.{getReady}
+use Rattle.table.specs.Values.{asSession}
+use Rattle.table.specs.Decode.{settingIn, decode}
+use Rattle.decision.specs.Found.{foundOf}
+use Rattle.decision.specs.Decided.{answered}
+use Rattle.decision.proofs.Places.{fits-get}
+use Rattle.decision.proofs.Ladders.{heardBy, storedBy, getOf, get-says}
+use borrow.Author.Needs.{needs}
+use Rattle.decision.proofs.sessions.get.Statement.{statement}
+use Rattle.decision.proofs.sessions.get.Tie as tie
+
+-- ---- what is known at the places of the code
+
+-- what is answered, by the session that was loaded
+says : (k : tie.After-session) → answered (decode (k .before .before .args .t .now)) (GET (k .before .before .args .s) (k .before .before .args .k)) ≡ getOf (k .before .before .args .t .now) (k .before .before .args .s) (k .before .before .args .k) (asSession (k .session .result))
+says k = get-says (k .before .before .args .t .now) (k .before .before .args .s) (asSession (k .session .result)) (k .session .ensures .0) (k .before .before .args .k)
+
+is-open : (e : tie.Else1) → e .before .before .session .result .open ≡ true
+is-open e = not-false _ (e .if1 .left)
+
+-- the test is the protocol's, of what the key's node has heard
+ready : (c : tie.After-at-most-but) → let k = c .before .before .before .before .before .before .before in
+    let x = k .session .result in
+    c .at-most-but .result ≡ getReady (x .site) (heardBy (k .before .before .args .t .now) (x .site) (k .before .before .args .k)) (entry (x .vec .e))
+unfolding getReady
+ready c = c .at-most-but .ensures ∙ rw (c .before .heard .ensures, c .before .before .partition .ensures .0)
+
+-- and what is found the newest of its records
+shows : (c : tie.After-newest) → let k = c .before .before .before .before .before .before .before .before .before in
+    let t = k .before .before .args .t .now in
+    foundOf (c .newest .result) ≡ newest (settingIn t) (ofKey (k .before .before .args .k)) (storedBy t (k .session .result .site) (k .before .before .args .k))
+shows c =
+    let t = c .before .before .before .before .before .before .before .before .before .before .before .args .t .now in
+    c .newest .ensures .0 (settingIn t) ∙ rw (fits-get, c .before .before .before .before .partition .ensures .0)
+
+-- ---- the needs
+
+session-requires : tie.Need-session-requires
+session-requires c κs = search needs
+
+refused-requires : tie.Need-refused-requires
+refused-requires c κs = search needs
+
+returns : tie.Need-returns
+unfolding asSession
+returns c =
+    let k = c .before .before .before in
+    c .refused .ensures ∙ sym (says k ∙ rw (not-true (k .session .result .open) (c .before .if1 .taken)))
+
+refused-requires-2 : tie.Need-refused-requires-2
+refused-requires-2 c κs = search needs
+
+returns-2 : tie.Need-returns-2
+unfolding asSession
+returns-2 c =
+    let e = c .before .before in
+    c .refused2 .ensures ∙ sym (says (e .before .before) ∙ rw (is-open e, c .before .if2 .taken))
+
+partition-requires : tie.Need-partition-requires
+partition-requires c κs = search needs
+
+heard-requires : tie.Need-heard-requires
+heard-requires c κs =
+    let e = c .before .before .before in
+    let k = e .before .before in
+    (search needs, k .session .ensures .2 (is-open e), search needs)
+
+cast-at-most-but : tie.Need-cast-at-most-but
+cast-at-most-but c = search needs
+
+at-most-but-requires : tie.Need-at-most-but-requires
+at-most-but-requires c κs = search needs
+
+refused-requires-3 : tie.Need-refused-requires-3
+refused-requires-3 c κs = search needs
+
+returns-3 : tie.Need-returns-3
+unfolding asSession
+returns-3 c =
+    let u = c .before .before in
+    let e2 = u .before .before .before .before in
+    c .refused3 .ensures ∙ sym (says (e2 .before .before .before) ∙ rw (is-open (e2 .before), e2 .if2 .left, sym (ready u), not-true (u .at-most-but .result) (c .before .if3 .taken)))
+
+newest-requires : tie.Need-newest-requires
+newest-requires c κs =
+    let h = c .before .before in
+    let e = h .before .before .before .before in
+    let k = e .before .before in
+    (search needs, k .before .before .pre .1, k .session .ensures .2 (is-open e), h .before .partition .ensures .1)
+
+raised-by-requires : tie.Need-raised-by-requires
+raised-by-requires c κs = search needs
+
+shown-requires : tie.Need-shown-requires
+shown-requires c κs = search needs
+
+with-vector-requires : tie.Need-with-vector-requires
+with-vector-requires c κs = search needs
+
+kept-requires : tie.Need-kept-requires
+kept-requires c κs = search needs
+
+returns-4 : tie.Need-returns-4
+unfolding asSession
+returns-4 c =
+    let w = c .before in
+    let n = w .before .before .before in
+    let u = n .before .before in
+    let e2 = u .before .before .before .before in
+    let k = e2 .before .before .before in
+    c .kept .ensures ∙ sym (says k ∙ rw (w .with-vector .ensures, w .before .before .raised-by .ensures, w .before .shown .ensures, shows n, is-open (e2 .before), e2 .if2 .left, sym (ready u), not-false (u .at-most-but .result) (n .before .if3 .left)))
+
+pub get-spec : {M : Type 1} → statement M
+get-spec =
+    tie.close
+    (tie.spec
+    session-requires
+    refused-requires
+    returns
+    refused-requires-2
+    returns-2
+    partition-requires
+    heard-requires
+    cast-at-most-but
+    at-most-but-requires
+    refused-requires-3
+    returns-3
+    newest-requires
+    raised-by-requires
+    shown-requires
+    with-vector-requires
+    kept-requires
+    returns-4)

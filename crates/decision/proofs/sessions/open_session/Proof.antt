@@ -1,0 +1,42 @@
+-- `decision::sessions::open_session` meets its contract: each return is a rung of the ladder. Assumes nothing.
+use mathlib.Core.Path.{_≡_, sym, ap, _∙_}
+use Rattle.protocol.specs.Event.{OPEN}
+use Rattle.protocol.specs.declared.Answer.{Answer}
+use Rattle.table.specs.Values.{asSession}
+use Rattle.table.specs.Decode.{decode}
+use Rattle.decision.specs.Decided.{answered}
+use Rattle.decision.proofs.Ladders.{keeps, openOf, open-says}
+use borrow.Author.Needs.{needs}
+use Rattle.decision.proofs.sessions.open_session.Statement.{statement}
+use Rattle.decision.proofs.sessions.open_session.Tie as tie
+
+-- what is answered, by the session that was loaded
+says : (k : tie.After-session) → answered (decode (k .before .before .args .t .now)) (OPEN (k .before .before .args .s) (k .before .before .args .m)) ≡ openOf (k .before .before .args .s) (k .before .before .args .m) (asSession (k .session .result))
+says k = open-says (k .before .before .args .t .now) (k .before .before .args .s) (asSession (k .session .result)) (k .session .ensures .0) (k .before .before .args .m)
+
+session-requires : tie.Need-session-requires
+session-requires c κs = search needs
+
+refused-requires : tie.Need-refused-requires
+refused-requires c κs = search needs
+
+returns : tie.Need-returns
+unfolding asSession
+returns c = c .refused .ensures ∙ sym (says (c .before .before) ∙ rw (c .before .if1 .taken))
+
+opened-requires : tie.Need-opened-requires
+opened-requires c κs = search needs
+
+kept-requires : tie.Need-kept-requires
+kept-requires c κs = search needs
+
+returns-2 : tie.Need-returns-2
+unfolding asSession
+returns-2 c =
+    let e = c .before .before in
+    c .kept .ensures ∙ ap (keeps Answer.Done _) (c .before .opened .ensures) ∙ sym (says (e .before) ∙ rw (e .if1 .left))
+
+pub open-session-spec : {M : Type 1} → statement M
+open-session-spec =
+    tie.close
+    (tie.spec session-requires refused-requires returns opened-requires kept-requires returns-2)

@@ -1,0 +1,93 @@
+// The decisions of a page: BEGIN, READ and END. Each takes the session, tests it from top to bottom as document 01's table of numbers has it, and
+// decides. Assumes nothing.
+ghost use mathlib.Core.Path.{_≡_};
+ghost use Prim.Native.Nat.{_≤_, _<_};
+ghost use lib.Dec.{T};
+ghost use lib.ListN.{length};
+ghost use Rattle.protocol.specs.Event.{BEGIN, READ, END};
+ghost use Rattle.table.specs.Decode.{decode};
+ghost use Rattle.lawful.specs.WellFormed.{wellFormed};
+ghost use Rattle.decision.specs.Marks.{keysOn};
+ghost use Rattle.decision.specs.Decided.{outcomeOf, answered};
+use crate::Decided;
+use crate::answers;
+use crate::keeping;
+use crate::lookup;
+use crate::marks;
+use protocol::Answer;
+
+// BEGIN of a page of the first `count` keys, with the node of partition p as its coordinator.
+pub fn begin(t: &[u8], s: u8, p: u8, count: u8, keys: [u8; 8]) -> Decided
+    requires { ⌜ (length (now t) ≡ 57344) × T (wellFormed (now t)) × (s < 16) × (p < 4) × (count ≤ 8) ⌝ }
+    ensures { λ r. ⌜ outcomeOf r ≡ answered (decode (now (t .entry))) (BEGIN s p (keysOn keys count)) ⌝ }
+{
+    let x = lookup::session(t, s);
+    if !x.open {
+        return answers::refused(12);
+    }
+    if x.paged {
+        return answers::refused(14);
+    }
+    if !marks::distinct(keys, count as usize) {
+        return answers::refused(17);
+    }
+    let vec = x.vec;
+    let page = answers::larger(lookup::heard(t, x.site, p), vec);
+    answers::kept(Answer::Done, s, keeping::begun(x, page, keys, count))
+}
+
+// READ of key k: "every entry of the node's vector, m included, is at least the page's", and then the newest record that fits the page is shown.
+pub fn read(t: &[u8], s: u8, k: u8) -> Decided
+    requires { ⌜ (length (now t) ≡ 57344) × T (wellFormed (now t)) × (s < 16) ⌝ }
+    ensures { λ r. ⌜ outcomeOf r ≡ answered (decode (now (t .entry))) (READ s k) ⌝ }
+{
+    let x = lookup::session(t, s);
+    if !x.open {
+        return answers::refused(12);
+    }
+    if !x.paged {
+        return answers::refused(15);
+    }
+    let keys = x.keys;
+    let marks = x.marks;
+    let count = x.count as usize;
+    if !marks::awaited(keys, marks, count, k) {
+        return answers::refused(16);
+    }
+    let m = x.site;
+    let page = x.page;
+    let p = lookup::partition(t, k);
+    if !page.at_most(lookup::heard(t, m, p)) {
+        return answers::refused(3);
+    }
+    let found = lookup::newest(t, m, p, k, true, page);
+    let gathered = x.gathered;
+    let raised = answers::raised_by(gathered, found);
+    let read = marks::read(keys, marks, count, k);
+    answers::kept(answers::shown(found), s, keeping::read_on(x, read, raised))
+}
+
+// END of the page: its session takes what the page gathered.
+pub fn end(t: &[u8], s: u8) -> Decided
+    requires { ⌜ (length (now t) ≡ 57344) × T (wellFormed (now t)) × (s < 16) ⌝ }
+    ensures { λ r. ⌜ outcomeOf r ≡ answered (decode (now (t .entry))) (END s) ⌝ }
+{
+    let x = lookup::session(t, s);
+    if !x.open {
+        return answers::refused(12);
+    }
+    if !x.paged {
+        return answers::refused(15);
+    }
+    let marks = x.marks;
+    if !marks::all_read(marks, x.count as usize) {
+        return answers::refused(18);
+    }
+    let vec = x.vec;
+    let gathered = x.gathered;
+    answers::kept(
+        Answer::Done,
+        s,
+        keeping::ended(x, answers::larger(vec, gathered)),
+    )
+}

@@ -1,0 +1,63 @@
+// The decisions of a session without a page: OPEN, CLOSE and GET. Each takes the session, tests it from top to bottom as document 01's table of
+// numbers has it, and decides. Assumes nothing.
+ghost use mathlib.Core.Path.{_≡_};
+ghost use Prim.Native.Nat.{_<_};
+ghost use lib.Dec.{T};
+ghost use lib.ListN.{length};
+ghost use Rattle.protocol.specs.Event.{OPEN, CLOSE, GET};
+ghost use Rattle.table.specs.Decode.{decode};
+ghost use Rattle.lawful.specs.WellFormed.{wellFormed};
+ghost use Rattle.decision.specs.Decided.{outcomeOf, answered};
+use crate::Decided;
+use crate::answers;
+use crate::keeping;
+use crate::lookup;
+use protocol::Answer;
+use vector::Vector;
+
+// OPEN of session s at site m.
+pub fn open_session(t: &[u8], s: u8, m: u8) -> Decided
+    requires { ⌜ (length (now t) ≡ 57344) × T (wellFormed (now t)) × (s < 16) ⌝ }
+    ensures { λ r. ⌜ outcomeOf r ≡ answered (decode (now (t .entry))) (OPEN s m) ⌝ }
+{
+    let x = lookup::session(t, s);
+    if x.open {
+        return answers::refused(13);
+    }
+    answers::kept(Answer::Done, s, keeping::opened(m))
+}
+
+pub fn close_session(t: &[u8], s: u8) -> Decided
+    requires { ⌜ (length (now t) ≡ 57344) × T (wellFormed (now t)) × (s < 16) ⌝ }
+    ensures { λ r. ⌜ outcomeOf r ≡ answered (decode (now (t .entry))) (CLOSE s) ⌝ }
+{
+    let x = lookup::session(t, s);
+    if !x.open {
+        return answers::refused(12);
+    }
+    answers::kept(Answer::Done, s, keeping::closed())
+}
+
+// GET of key k: "the node's entry for every site other than m is at least the session's", and then the newest record is shown.
+pub fn get(t: &[u8], s: u8, k: u8) -> Decided
+    requires { ⌜ (length (now t) ≡ 57344) × T (wellFormed (now t)) × (s < 16) ⌝ }
+    ensures { λ r. ⌜ outcomeOf r ≡ answered (decode (now (t .entry))) (GET s k) ⌝ }
+{
+    let x = lookup::session(t, s);
+    if !x.open {
+        return answers::refused(12);
+    }
+    if x.paged {
+        return answers::refused(14);
+    }
+    let m = x.site;
+    let vec = x.vec;
+    let p = lookup::partition(t, k);
+    let heard = lookup::heard(t, m, p);
+    if !vec.at_most_but(heard, m as usize) {
+        return answers::refused(3);
+    }
+    let found = lookup::newest(t, m, p, k, false, Vector::ZERO);
+    let raised = answers::raised_by(vec, found);
+    answers::kept(answers::shown(found), s, keeping::with_vector(x, raised))
+}

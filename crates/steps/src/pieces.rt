@@ -1,0 +1,19 @@
+// Event bytes in pieces of 32, and answers in 16 bytes each. Assumes nothing.
+ghost use mathlib.Core.Path.{_≡_};
+ghost use Prim.Native.Nat.{_+_, _≤_};
+ghost use lib.ListN.{length};
+ghost use Rattle.steps.specs.Run.{putAnswer};
+use protocol::Answer;
+
+// The answer's 16 bytes go to `at`.
+pub fn store_answer(b: &mut [u8], at: usize, a: Answer)
+    requires { ⌜ at + 16 ≤ length (now b) ⌝ }
+    ensures { λ _. ⌜ now (b .exit) ≡ putAnswer (now (b .entry)) at a ⌝ }
+{
+    codec::store_u8(b, at, protocol::number_of(a));
+    codec::store_u8(b, at + 1, protocol::source_of(a));
+    codec::store_u8(b, at + 2, protocol::quality_of(a));
+    codec::store_u8(b, at + 3, 0);
+    codec::store_level(b, at + 4, protocol::level_of(a));
+    codec::store_u64(b, at + 8, protocol::stamp_of(a));
+}

@@ -1,0 +1,44 @@
+//! Document 01 over plain structs: causal replication for a level archive.
+//!
+//! The state is typed and never bytes; only events come as bytes. So an answer
+//! of 24 (a table that isn't well formed) can't arise here.
+//!
+//! * [`Archive`] is the archive; [`Archive::step`] takes one event.
+//! * [`mod@bench`] is the bench program between any input and output.
+//! * [`causal`] watches events and answers for a breach of causality.
+//! * [`stream`] makes pseudo-random lists of events.
+
+#![forbid(unsafe_code)]
+#![warn(missing_docs)]
+
+mod answer;
+mod archive;
+mod channel;
+mod event;
+mod lines;
+mod node;
+mod reader;
+mod record;
+mod session;
+mod steps;
+
+pub mod bench;
+pub mod causal;
+pub mod limits;
+pub mod make;
+pub mod random;
+pub mod stream;
+pub mod vector;
+
+#[cfg(test)]
+mod examples;
+#[cfg(test)]
+mod mutants;
+
+pub use answer::Answer;
+pub use archive::Archive;
+pub use channel::Channel;
+pub use event::{code, Event};
+pub use node::Node;
+pub use record::{Message, Record};
+pub use session::{Page, Session};
