@@ -25,6 +25,7 @@ ghost use Rattle.decision.specs.Decided.{outcomeOf, answered};
 use crate::Decided;
 use crate::Effect;
 use crate::answers;
+use crate::keeping;
 use crate::lookup;
 use protocol::Answer;
 use table::Letter;
@@ -104,7 +105,7 @@ fn done(effect: Effect) -> Decided
         answer: Answer::Done,
         effect,
         carried: Vector::ZERO,
-        session: answers::closed(),
+        session: keeping::closed(),
     }
 }
 
@@ -168,9 +169,7 @@ fn stored(s: u8, x: Session, p: u8, key: u8, quality: u8, level: i32, stamp: u64
         level,
         stamp,
     };
-    let mut session = x;
-    session.open = true;
-    session.vec = carried.with_entry(m as usize, stamp);
+    let vec = carried.with_entry(m as usize, stamp);
     Decided {
         answer: Answer::Stamped { source: m, stamp },
         effect: Effect::Put {
@@ -180,7 +179,7 @@ fn stored(s: u8, x: Session, p: u8, key: u8, quality: u8, level: i32, stamp: u64
             message,
         },
         carried,
-        session,
+        session: keeping::with_vector(x, vec),
     }
 }
 
@@ -243,7 +242,7 @@ fn taken(i: u8, m: u8, p: u8, x: Letter) -> Decided
             message,
         },
         carried,
-        session: answers::closed(),
+        session: keeping::closed(),
     }
 }
 
