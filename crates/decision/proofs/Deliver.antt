@@ -8,10 +8,9 @@ use mathlib.Core.List.{List, [], _∷_}
 use borrow.Author.Tests.{lt-ltb, ne-eqb}
 use lib.Dec.{ltb}
 use Rattle.protocol.specs.Record.{Msg, Update, Beat}
-use Rattle.protocol.specs.State.{closed}
 use Rattle.protocol.specs.Event.{DELIVER}
 use Rattle.protocol.specs.View.{place, look, viewAt, view}
-use Rattle.protocol.specs.Needs.{storeRoom, isEmpty, frontUpdates, needs}
+use Rattle.protocol.specs.Needs.{isEmpty, frontUpdates, needs}
 use Rattle.protocol.specs.Change.{Receive}
 use Rattle.protocol.specs.Serve.{Outcome, _and_, taken, serve}
 use Rattle.protocol.specs.Step.{judge}
@@ -24,7 +23,7 @@ use Rattle.table.specs.Channel.{ringAt, frontIn, waitIn, queueIn}
 use Rattle.table.specs.Decode.{decode}
 use Rattle.decision.specs.Decided.{answered}
 use Rattle.decision.proofs.Room.{store-room}
-use Rattle.decision.proofs.Times.{refuse}
+use Rattle.decision.proofs.Ladders.{no as refuse}
 
 -- ---- a channel's queue
 

@@ -1,4 +1,5 @@
--- The search by places is the protocol's search; what is asked of a well-formed table, and known of a session; a node's bytes in the table; vectors by their entries.
+-- The search by places is the protocol's search; what is asked of a well-formed table, and known of a session; a node's bytes in the table; vectors
+-- by their entries; what each event is answered: those of a session that only read, then room, and those that write to nodes.
 pub mod Places
 pub mod Formed
 pub mod Told

@@ -34,7 +34,7 @@ use Rattle.lawful.specs.WellFormed.{wellFormed}
 use Rattle.lawful.proofs.Facts.{formed}
 use Rattle.decision.specs.Decided.{answered}
 use Rattle.decision.proofs.Room.{roomy, store-room, send-room}
-use Rattle.decision.proofs.Times.{refuse}
+use Rattle.decision.proofs.Ladders.{no as refuse}
 
 pub site-there : (t : List ℕ) → T (wellFormed t) → (s : ℕ) → s < 16 → (x : Session) → x ≡ sessionIn (sessionOf t s) → x .isOpen ≡ true → x .site < load 1 t 0
 unfolding sessionLawful settingIn

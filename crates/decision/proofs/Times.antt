@@ -7,22 +7,19 @@ use lib.Dec.{leb, ltb}
 use Rattle.codec.specs.Le.{load}
 use Rattle.protocol.specs.Record.{Beat}
 use Rattle.protocol.specs.State.{closed}
-use Rattle.protocol.specs.Event.{CLOCK, BEAT, plain}
+use Rattle.protocol.specs.Event.{CLOCK, BEAT}
 use Rattle.protocol.specs.View.{place, look, viewAt, view}
 use Rattle.protocol.specs.Needs.{beatSends, needs}
 use Rattle.protocol.specs.Change.{Change, SetClock, Publish}
-use Rattle.protocol.specs.Serve.{Outcome, _and_, serve}
+use Rattle.protocol.specs.Serve.{_and_, serve}
 use Rattle.protocol.specs.Step.{judge}
-use Rattle.protocol.specs.declared.Answer.the-variants.{Done, Refused}
+use Rattle.protocol.specs.declared.Answer.the-variants.{Done}
 use Rattle.table.specs.Parts.{siteOf, nodeOf}
 use Rattle.table.specs.Node.{clockIn, heardIn}
 use Rattle.table.specs.Decode.{decode}
 use Rattle.decision.specs.Decided.{answered}
+use Rattle.decision.proofs.Ladders.{no as refuse}
 use Rattle.decision.proofs.Room.{roomy, send-room}
-
--- refused with the number
-abbrev pub refuse : ℕ → Outcome
-refuse n = Refused (plain n) and []
 
 pub clock-answered : (t : List ℕ) (m p time : ℕ) → answered (decode t) (CLOCK m p time) ≡ cond (leb (clockIn (nodeOf (siteOf t m) p)) time) (Done and SetClock m p time ∷ []) (refuse 19)
 unfolding answered judge needs serve view viewAt place look decode

@@ -169,9 +169,7 @@ fn stored(s: u8, x: Session, p: u8, key: u8, quality: u8, level: i32, stamp: u64
         level,
         stamp,
     };
-    let mut session = x;
-    session.open = true;
-    session.vec = carried.with_entry(m as usize, stamp);
+    let vec = carried.with_entry(m as usize, stamp);
     Decided {
         answer: Answer::Stamped { source: m, stamp },
         effect: Effect::Put {
@@ -181,7 +179,7 @@ fn stored(s: u8, x: Session, p: u8, key: u8, quality: u8, level: i32, stamp: u64
             message,
         },
         carried,
-        session,
+        session: keeping::with_vector(x, vec),
     }
 }
 

@@ -1,12 +1,10 @@
 -- `decision::writes::beat` meets its contract, by the tests in their order. Assumes nothing.
-use mathlib.Core.Path.{_≡_, sym, ap, _∙_}
+use mathlib.Core.Path.{_≡_, sym, _∙_}
 use mathlib.Core.Bool.{Bool, true, false}
-use Prim.Native.Nat.{_≤_, _<_}
 use native.Mathlib.Omega.{arith}
 use borrow.Author.Needs.{needs}
 use borrow.Author.Tests.{lt-ltb, le-ltb, not-true, not-false}
 use lib.Dec.{ltb}
-use Rattle.codec.specs.Le.{load}
 use Rattle.table.specs.Parts.{siteOf, nodeOf}
 use Rattle.table.specs.Node.{clockIn, heardIn}
 use Rattle.table.specs.Decode.{settingIn}

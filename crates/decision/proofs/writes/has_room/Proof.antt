@@ -1,5 +1,5 @@
 -- `decision::writes::has_room` meets its contract: `all` says it of the first d channels. Assumes nothing.
-use mathlib.Core.Path.{_≡_, sym, ap, _∙_}
+use mathlib.Core.Path.{_≡_, sym, ap}
 use Prim.Native.Nat.{_-_, _≤_}
 use native.Mathlib.Omega.{arith}
 use lib.Dec.{ltb}

@@ -18,7 +18,7 @@ use Rattle.table.specs.Values.{asSession}
 use Rattle.lawful.proofs.Facts.{formed}
 use Rattle.decision.specs.Decided.{answered}
 use Rattle.decision.proofs.Room.{roomy}
-use Rattle.decision.proofs.Times.{refuse}
+use Rattle.decision.proofs.Ladders.{no as refuse}
 use Rattle.decision.proofs.Put.{site-there, stampedBy, atNode, put-closed, put-paged, put-there}
 use Rattle.decision.proofs.writes.put.Statement.{statement}
 use Rattle.decision.proofs.writes.put.Tie as tie

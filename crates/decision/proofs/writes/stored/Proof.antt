@@ -5,7 +5,6 @@ use lib.ListN.{length}
 use mir.ValLaws.{toZ-ofZ}
 use mir.Syntax.{w32}
 use Rattle.vector.specs.Vec.{width}
-use Rattle.protocol.specs.State.{opened}
 use Rattle.protocol.specs.Serve.{written}
 use Rattle.table.specs.Values.{messageOf, asSession}
 use Rattle.decision.specs.Decided.{changesOf, outcomeOf}
@@ -20,13 +19,19 @@ cast-with-entry c = search needs
 with-entry-requires : tie.Need-with-entry-requires
 with-entry-requires c κs = search needs
 
+with-vector-requires : tie.Need-with-vector-requires
+with-vector-requires c κs = search needs
+
+four : (s : tie.Start) → length (s .args .x .vec .e) ≡ width
+unfolding width
+four s = search needs
+
 returns : tie.Need-returns
-unfolding outcomeOf changesOf messageOf asSession written opened width
+unfolding outcomeOf changesOf messageOf asSession written width
 returns c =
-    let s = c .before .before in
+    let s = c .before .before .before in
     let x = s .args .x in
-    let four : length (x .vec .e) ≡ width = search needs in
-    rw (toZ-ofZ w32 (s .args .level) (search needs), c .with-entry .ensures, entry-with (x .vec .e) (x .site) (s .args .stamp) four (omega arith))
+    rw (c .with-vector .ensures, c .before .with-entry .ensures, entry-with (x .vec .e) (x .site) (s .args .stamp) (four s) (omega arith), toZ-ofZ w32 (s .args .level) (search needs))
 
 pub stored-spec : {M : Type 1} → statement M
-stored-spec = tie.close (tie.spec cast-with-entry with-entry-requires returns)
+stored-spec = tie.close (tie.spec cast-with-entry with-entry-requires with-vector-requires returns)
