@@ -1,6 +1,7 @@
--- What the calls give by their tests; the theorems carried to the bytes; the stand-ins that do not meet the promise; and what may influence a step: the
+-- What the calls give by their tests; that nothing else meets their promises; the theorems carried to the bytes; the stand-ins that do not meet the promise; and what may influence a step: the
 -- same writes to two tables, by numbers and parts and by each change, and a session that is not open.
 pub mod Calls
+pub mod Unique
 pub mod Story
 pub mod StandIns
 pub mod Writes
