@@ -1,12 +1,12 @@
 -- The theorems carried to the bytes. In order: one call of `step` on a sound table (of the right length and well formed), any list of event byte strings
 -- as a list of the protocol's events, from setup, and the promises. Assumes nothing.
-use Prim.Native.Nat.{ℕ, _+_, _≤_}
+use Prim.Native.Nat.{ℕ, zero, suc, _+_, _≤_}
 use native.Mathlib.Nat.{zero-add}
 use native.Mathlib.Omega.{arith}
 use mathlib.Core.Path.{_≡_, refl, sym, ap, ap₂, subst, _∙_}
 use mathlib.Core.Logic.{_≢_}
 use mathlib.Core.Bool.{Bool, true, false, cond, not, _&&_}
-use mathlib.Core.List.{List, [], _∷_}
+use mathlib.Core.List.{List, [], _∷_, _++_}
 use lib.Dec.{T, eqb}
 use lib.ListN.{length}
 use mir.Facts.{T-not, and-yes, yes-and}
@@ -24,7 +24,9 @@ use Rattle.protocol.specs.Count.{puts, delivers, count, waiting}
 use Rattle.protocol.proofs.Causal as Protocol
 use Rattle.protocol.proofs.Conserve.{conserved}
 use Rattle.protocol.proofs.Numbers.{no-24}
+use Rattle.table.specs.Tabulate.{tabulate}
 use Rattle.table.specs.Parts.{tableLength}
+use Rattle.table.proofs.Tabulate.{tab-snoc}
 use Rattle.table.specs.Decode.{decode}
 use Rattle.table.specs.Put.{putChanges, fresh}
 use Rattle.lawful.specs.Values.{settingLawful}
@@ -36,8 +38,10 @@ use Rattle.event.specs.Fields.{unusedZero}
 use Rattle.steps.proofs.Stepped.{cond-yes, cond-not}
 use Rattle.steps.specs.Step.{Called, gives, refused, stepOn}
 use Rattle.archive.specs.Call.{stepCall, setupCall}
+use Rattle.steps.specs.Run.{pieceOf, turned, runBy}
+use Rattle.archive.specs.Run.{piecesOf, runCall}
 use Rattle.archive.specs.Story.{isEvent, tableAfter, linesOf, countOf}
-use Rattle.archive.specs.Promises.{setUp, CausalGet, CausalPage, Conserved, NeverIll}
+use Rattle.archive.specs.Promises.{setUp, CausalGet, CausalPage, Conserved, NeverIll, RunIsSteps}
 
 -- ---- a test that is known
 
@@ -216,3 +220,21 @@ never-ill c l t long es e = go (isEvent e) (λ i. i) (λ i. i)
     go : (b : Bool) → (T b → T (isEvent e)) → (T (not b) → T (not (isEvent e))) → stepCall (tableAfter (setUp c t) es) e .answer ≢ Refused (plain 24)
     go true f g = rw (step-event (tableAfter (setUp c t) es) e R (f tt)) (no-24 (decode (tableAfter (setUp c t) es)) (eventOf e))
     go false f g = step-other (tableAfter (setUp c t) es) e R (g tt) .number
+
+-- ---- run
+
+after-more : (t : List ℕ) (es : List (List ℕ)) (e : List ℕ) → tableAfter t (es ++ (e ∷ [])) ≡ stepCall (tableAfter t es) e .table
+unfolding tableAfter
+after-more t [] e = refl
+after-more t (d ∷ es) e = after-more (stepCall t d .table) es e
+
+run-after : (t es b : List ℕ) (n : ℕ) → runBy stepCall n t es b .table ≡ tableAfter t (tabulate n (pieceOf es))
+unfolding runBy turned
+run-after t es b zero = unfold tabulate tableAfter in refl
+run-after t es b (suc n) =
+    ap (λ u. stepCall u (pieceOf es n) .table) (run-after t es b n)
+    ∙ sym (ap (tableAfter t) (tab-snoc n (pieceOf es)) ∙ after-more t (tabulate n (pieceOf es)) (pieceOf es n))
+
+pub run-is-steps : RunIsSteps
+unfolding runCall
+run-is-steps t es b = run-after t es b (piecesOf es b)

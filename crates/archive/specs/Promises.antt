@@ -11,11 +11,14 @@ use Rattle.protocol.specs.declared.Answer.the-variants.{Refused}
 use Rattle.protocol.specs.Past.{history}
 use Rattle.protocol.specs.Causal.{GetCausal, PageCausal}
 use Rattle.protocol.specs.Count.{puts, delivers, waiting}
+use Rattle.table.specs.Tabulate.{tabulate}
 use Rattle.table.specs.Parts.{tableLength}
 use Rattle.table.specs.Decode.{decode}
 use Rattle.lawful.specs.Values.{settingLawful}
 use Rattle.event.specs.Event.{eventOf}
+use Rattle.steps.specs.Run.{pieceOf}
 use Rattle.archive.specs.Call.{stepCall, setupCall}
+use Rattle.archive.specs.Run.{piecesOf, runCall}
 use Rattle.archive.specs.Story.{isEvent, tableAfter, linesOf, countOf}
 
 -- the table t, of any bytes, set up for the constants
@@ -38,3 +41,7 @@ Conserved = (c : Setting) → T (settingLawful c) → (t : List ℕ) → length 
 -- a table that setup and steps have led to is never refused with 24
 abbrev pub NeverIll : Type 0
 NeverIll = (c : Setting) → T (settingLawful c) → (t : List ℕ) → length t ≡ tableLength → (es : List (List ℕ)) (e : List ℕ) → stepCall (tableAfter (setUp c t) es) e .answer ≢ Refused (plain 24)
+
+-- RUN leads to the table that `step` leads to with the pieces one by one; so all of the above is said of it too
+abbrev pub RunIsSteps : Type 0
+RunIsSteps = (t es b : List ℕ) → runCall t es b .table ≡ tableAfter t (tabulate (piecesOf es b) (pieceOf es))
