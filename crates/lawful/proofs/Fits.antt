@@ -18,7 +18,8 @@ use Rattle.table.specs.Letter.{messageAt}
 use Rattle.table.specs.Channel.{ringAt, frontIn, waitIn, queueIn}
 use Rattle.table.specs.Decode.{settingIn, decode}
 use Rattle.table.specs.Put.{putChange}
-use Rattle.table.specs.Fits.{RoomFor, Fits, FitsAll}
+use Rattle.table.specs.Fits.{Fits, FitsAll}
+use Rattle.table.specs.Room.{Room}
 use Rattle.table.proofs.Tabulate.{tab-length}
 use Rattle.table.proofs.Bytes.{bytes-putChange}
 use Rattle.table.proofs.Decode.{length-putChange, setting-put, decode-put}
@@ -50,7 +51,7 @@ chan-length t i m p h d =
     let w = channelOf (siteOf t i) p (placeOf i m) in
     rw (lt-ltb m 4 h, ne-eqb i m d) (tab-length (waitIn w) (λ k. messageAt w (ringAt (frontIn w) k)))
 
-room-for : (t : List ℕ) (m p : ℕ) (x : Msg) → RoomIn x (decode t .net .store m p) → RoomFor x (nodeOf (siteOf t m) p)
+room-for : (t : List ℕ) (m p : ℕ) (x : Msg) → RoomIn x (decode t .net .store m p) → Room x (nodeOf (siteOf t m) p)
 room-for t m p (Update r) room = omega (arith, store-length t m p)
 room-for t m p (Beat s) room = tt
 

@@ -16,7 +16,7 @@ use Rattle.vector.proofs.Entries.{loadVec-below, loadVec-beyond}
 use Rattle.protocol.specs.Record.{Setting, Rec, Msg, Update, Beat, stampIn}
 use Rattle.table.specs.Letter.{putRecord}
 use Rattle.table.specs.Node.{slotAt, clockIn, heardIn, heldIn, clockSet, stored, published, received}
-use Rattle.table.specs.Fits.{RoomFor}
+use Rattle.table.specs.Room.{Room}
 use Rattle.table.proofs.Lengths.{length-putRecord}
 use Rattle.table.proofs.LetterBytes.{loadVec-ext, load-putRecord-other}
 use Rattle.table.proofs.NodeBytes.{clock-clockSet, heard-clockSet, clock-published, heard-published}
@@ -95,7 +95,7 @@ module _ (c : Setting) (m p : ℕ) where
         (record-formed-put c few p n (slotAt (heldIn n)) (omega arith) r ok))
 
   module _ (few : c .sites ≤ 4) (site : m < c .sites) (part : p < c .parts) where
-    stored-kept : (i : ℕ) (x : Msg) (n : List ℕ) → length n ≡ 1856 → LawfulMsg c i p x → RoomFor x n → NodeFacts c m p n → NodeFacts c m p (stored x n)
+    stored-kept : (i : ℕ) (x : Msg) (n : List ℕ) → length n ≡ 1856 → LawfulMsg c i p x → Room x n → NodeFacts c m p n → NodeFacts c m p (stored x n)
     stored-kept i (Update r) n l ok room F = record {
       clock = rw (clock-update r n l room) (F .clock);
       heard = rw (heard-update r n l room) (F .heard);
@@ -104,22 +104,22 @@ module _ (c : Setting) (m p : ℕ) where
     }
     stored-kept i (Beat t) n l ok room F = unfold stored in F
 
-    room-entry : (x : Msg) (n : List ℕ) (i v : ℕ) → i < 4 → RoomFor x n → RoomFor x (put 8 n (8 + 8 * i) v)
+    room-entry : (x : Msg) (n : List ℕ) (i v : ℕ) → i < 4 → Room x n → Room x (put 8 n (8 + 8 * i) v)
     room-entry (Update r) n i v h room = omega (arith, held-before n 8 (8 + 8 * i) v (omega arith))
     room-entry (Beat t) n i v h room = tt
 
     -- a lawful message of site i, with a stamp in its entry
-    message-kept : (i v : ℕ) (x : Msg) (n : List ℕ) → length n ≡ 1856 → i < c .sites → v < 2 ^ 48 → LawfulMsg c i p x → RoomFor x n → NodeFacts c m p n → NodeFacts c m p (stored x (put 8 n (8 + 8 * i) v))
+    message-kept : (i v : ℕ) (x : Msg) (n : List ℕ) → length n ≡ 1856 → i < c .sites → v < 2 ^ 48 → LawfulMsg c i p x → Room x n → NodeFacts c m p n → NodeFacts c m p (stored x (put 8 n (8 + 8 * i) v))
     message-kept i v x n l h b ok room F =
         stored-kept i x (put 8 n (8 + 8 * i) v) (length-put 8 n (8 + 8 * i) v ∙ l) ok (room-entry x n i v (omega arith) room) (entry-kept n i v l few h b F)
 
     -- ---- its own message, and another's
 
-    pub published-kept : (x : Msg) (n : List ℕ) → length n ≡ 1856 → LawfulMsg c m p x → RoomFor x n → NodeFacts c m p n → NodeFacts c m p (published m x n)
+    pub published-kept : (x : Msg) (n : List ℕ) → length n ≡ 1856 → LawfulMsg c m p x → Room x n → NodeFacts c m p n → NodeFacts c m p (published m x n)
     unfolding published
     published-kept x n l ok room F = message-kept m (stampIn x) x n l site (stamp-lawful c m p x ok) ok room F
 
-    pub received-kept : (i : ℕ) (x : Msg) (n : List ℕ) → length n ≡ 1856 → i < c .sites → LawfulMsg c i p x → RoomFor x n → NodeFacts c m p n → NodeFacts c m p (received i x n)
+    pub received-kept : (i : ℕ) (x : Msg) (n : List ℕ) → length n ≡ 1856 → i < c .sites → LawfulMsg c i p x → Room x n → NodeFacts c m p n → NodeFacts c m p (received i x n)
     unfolding received heardIn width
     received-kept i x n l h ok room F =
         let old = heard-lawful n F .below i in

@@ -1,4 +1,4 @@
--- What carrying a decision out asks, from what fits: room as the table's changes ask it, and a session's marks. And the changes of an effect that is
+-- What carrying a decision out asks, from what fits: a session's marks. And the changes of an effect that is
 -- known. Assumes nothing.
 use Prim.Native.Nat.{ℕ, _≤_}
 use native.Mathlib.Omega.{arith}
@@ -6,22 +6,15 @@ use mathlib.Core.Path.{_≡_, ap, subst}
 use mathlib.Core.Bool.{false}
 use mathlib.Core.List.{List}
 use lib.ListN.{getD}
-use Rattle.protocol.specs.Record.{Msg, Update, Beat}
 use Rattle.protocol.specs.State.{Mark}
 use Rattle.protocol.specs.Change.{Change}
-use Rattle.table.specs.Fits.{FitsSession, RoomFor}
-use Rattle.table.specs.Room.{Room}
+use Rattle.table.specs.Fits.{FitsSession}
 use Rattle.table.specs.Values.{asSession}
 use Rattle.table.specs.declared.Session.{Session}
 use Rattle.table.proofs.Tabulate.{tab-length}
 use Rattle.decision.specs.Decided.{changesOf}
 use Rattle.decision.specs.declared.Effect.{Effect}
 use Rattle.decision.specs.declared.Decided.{Decided}
-
-pub room-for : (x : Msg) (n : List ℕ) → RoomFor x n → Room x n
-unfolding Room
-room-for (Update r) n room = room
-room-for (Beat t) n room = tt
 
 pub marks-few : (x : Session) → FitsSession (asSession x) → x .count ≤ 8
 unfolding asSession

@@ -17,7 +17,8 @@ use Rattle.vector.proofs.Entries.{loadVec-below}
 use Rattle.protocol.specs.Record.{Rec, Msg, Update, Beat, stampIn, recordsIn}
 use Rattle.table.specs.Letter.{recordAt, putRecord}
 use Rattle.table.specs.Node.{clockIn, heardIn, heldIn, slotAt, storeIn, clockSet, stored, published, received}
-use Rattle.table.specs.Fits.{FitsRec, FitsMsg, RoomFor}
+use Rattle.table.specs.Fits.{FitsRec, FitsMsg}
+use Rattle.table.specs.Room.{Room}
 use Rattle.table.proofs.Lengths.{length-putRecord}
 use Rattle.table.proofs.Tabulate.{tab-ext, tab-more}
 use Rattle.table.proofs.LetterBytes.{Same, loadVec-ext, record-ext, load-putRecord-other, record-putRecord}
@@ -37,7 +38,7 @@ module _ (n : List ℕ) (w at v : ℕ) (h : at + w ≤ 40) where
   store-before : storeIn (put w n at v) ≡ storeIn n
   store-before = store-ext (put w n at v) n held-before (λ k u j p q. load-put-other u w n at v j (λ i a b c d. omega arith))
 
-  room-before : (x : Msg) → RoomFor x n → RoomFor x (put w n at v)
+  room-before : (x : Msg) → Room x n → Room x (put w n at v)
   room-before (Update r) room = omega (arith, held-before)
   room-before (Beat t) room = tt
 
@@ -93,7 +94,7 @@ module _ (r : Rec) (n : List ℕ) (l : length n ≡ 1856) (small : FitsRec r) (r
       (λ w j p q. load-put-other w 1 (putRecord n (slotAt (heldIn n)) r) 40 (heldIn n + 1) j (λ i a b c d. omega arith))
       ∙ record-putRecord n (slotAt (heldIn n)) r (omega arith) small
 
-store-stored : (x : Msg) (n : List ℕ) → length n ≡ 1856 → FitsMsg x → RoomFor x n → storeIn (stored x n) ≡ storeIn n ++ recordsIn x
+store-stored : (x : Msg) (n : List ℕ) → length n ≡ 1856 → FitsMsg x → Room x n → storeIn (stored x n) ≡ storeIn n ++ recordsIn x
 unfolding storeIn recordsIn
 store-stored (Update r) n l small room =
     rw (held-update r n l small room)
@@ -139,7 +140,7 @@ module _ (m v : ℕ) (x : Msg) (n : List ℕ) (l : length n ≡ 1856) (h : m < 4
   heard-message : v < span 8 → heardIn (stored x (put 8 n (8 + 8 * m) v)) ≡ withEntry (heardIn n) m v
   heard-message b = heard-stored x (put 8 n (8 + 8 * m) v) ∙ heard-entry n m v l h b
 
-  store-message : FitsMsg x → RoomFor x n → storeIn (stored x (put 8 n (8 + 8 * m) v)) ≡ storeIn n ++ recordsIn x
+  store-message : FitsMsg x → Room x n → storeIn (stored x (put 8 n (8 + 8 * m) v)) ≡ storeIn n ++ recordsIn x
   store-message small room =
       store-stored x (put 8 n (8 + 8 * m) v) (length-put 8 n (8 + 8 * m) v ∙ l) small (room-before n 8 (8 + 8 * m) v (omega arith) x room)
       ∙ ap (λ s. s ++ recordsIn x) (store-before n 8 (8 + 8 * m) v (omega arith))
@@ -153,7 +154,7 @@ module _ (m : ℕ) (x : Msg) (n : List ℕ) (l : length n ≡ 1856) (h : m < 4) 
   unfolding published
   heard-published small = heard-message m (stampIn x) x n l h (stamp-fits x small)
 
-  pub store-published : FitsMsg x → RoomFor x n → storeIn (published m x n) ≡ storeIn n ++ recordsIn x
+  pub store-published : FitsMsg x → Room x n → storeIn (published m x n) ≡ storeIn n ++ recordsIn x
   unfolding published
   store-published small room = store-message m (stampIn x) x n l h small room
 
@@ -168,6 +169,6 @@ module _ (i : ℕ) (x : Msg) (n : List ℕ) (l : length n ≡ 1856) (h : i < 4) 
       heard-message i (max (load 8 n (8 + 8 * i)) (stampIn x)) x n l h (omega (arith, load-lt 8 n (8 + 8 * i) bytes, stamp-fits x small))
       ∙ entry-raised (heardIn n) i (load 8 n (8 + 8 * i)) (stampIn x) (entry-heard n i h)
 
-  pub store-received : FitsMsg x → RoomFor x n → storeIn (received i x n) ≡ storeIn n ++ recordsIn x
+  pub store-received : FitsMsg x → Room x n → storeIn (received i x n) ≡ storeIn n ++ recordsIn x
   unfolding received
   store-received small room = store-message i (max (load 8 n (8 + 8 * i)) (stampIn x)) x n l h small room

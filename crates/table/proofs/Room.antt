@@ -10,7 +10,6 @@ use Rattle.table.specs.Node.{heldIn}
 use Rattle.table.specs.Room.{Room}
 
 pub room-held : (x : Msg) (n : List ℕ) → heldIn n < 32 → Room x n
-unfolding Room
 room-held (Update r) n h = h
 room-held (Beat t) n h = tt
 
@@ -19,6 +18,5 @@ unfolding heldIn
 held-heard n m t h = load-put-other 1 8 n (8 + 8 * m) t 40 (λ k a b c d. omega arith)
 
 pub room-heard : (x : Msg) (n : List ℕ) (m t : ℕ) → m < 4 → Room x n → Room x (put 8 n (8 + 8 * m) t)
-unfolding Room
 room-heard (Update r) n m t h room = rw (held-heard n m t h) room
 room-heard (Beat s) n m t h room = tt

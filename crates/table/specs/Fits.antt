@@ -11,8 +11,8 @@ use Rattle.protocol.specs.Record.{Rec, Msg, Update, Beat}
 use Rattle.protocol.specs.State.{Mark, Session}
 use Rattle.protocol.specs.Change.{Change, SetSession, SetClock, Publish, Receive}
 use Rattle.table.specs.Parts.{siteOf, nodeOf, channelOf}
-use Rattle.table.specs.Node.{heldIn}
 use Rattle.table.specs.Channel.{waitIn}
+use Rattle.table.specs.Room.{Room}
 use Rattle.table.specs.Put.{putChange}
 
 -- ---- a value fits its bytes
@@ -47,17 +47,12 @@ pub record FitsSession (x : Session) : Type 0 where
 
 -- ---- a change fits the table
 
--- an update wants a slot of the node
-abbrev pub RoomFor : Msg → List ℕ → Type 0
-RoomFor (Update r) n = heldIn n < 32
-RoomFor (Beat t) n = Unit {0}
-
 pub record FitsPublish (m p : ℕ) (x : Msg) (t : List ℕ) : Type 0 where
   pub site : m < load 1 t 0
   pub sites : load 1 t 0 ≤ 4
   pub part : p < 4
   pub msg : FitsMsg x
-  pub room : RoomFor x (nodeOf (siteOf t m) p)
+  pub room : Room x (nodeOf (siteOf t m) p)
   pub ways : (d : ℕ) → d < load 1 t 0 - 1 → waitIn (channelOf (siteOf t m) p d) < 8
 
 pub record FitsReceive (i m p : ℕ) (x : Msg) (t : List ℕ) : Type 0 where
@@ -66,7 +61,7 @@ pub record FitsReceive (i m p : ℕ) (x : Msg) (t : List ℕ) : Type 0 where
   pub other : i ≡ m → ⊥
   pub part : p < 4
   pub msg : FitsMsg x
-  pub room : RoomFor x (nodeOf (siteOf t m) p)
+  pub room : Room x (nodeOf (siteOf t m) p)
   pub bytes : Bytes t
 
 abbrev pub Fits : Change → List ℕ → Type 0

@@ -7,7 +7,7 @@ use Rattle.table.specs.Node.{heldIn}
 use Rattle.table.specs.Channel.{waitIn}
 
 -- an update takes one of a node's 32 places for records, a heartbeat none
-unfoldable pub Room : Msg → List ℕ → Type 0
+abbrev pub Room : Msg → List ℕ → Type 0
 Room (Update r) n = heldIn n < 32
 Room (Beat t) n = Unit {0}
 

@@ -8,7 +8,7 @@ use Rattle.table.specs.Values.{messageOf, asMessage}
 use Rattle.decision.specs.Decided.{changesOf}
 use Rattle.decision.specs.declared.Effect.{Effect}
 use Rattle.steps.specs.Waits.{Waits}
-use Rattle.steps.proofs.Carried.{room-for, marks-few, changesIf, told, told-same}
+use Rattle.steps.proofs.Carried.{marks-few, changesIf, told, told-same}
 use Rattle.steps.proofs.effects.carry_out.Statement.{statement}
 use Rattle.steps.proofs.effects.carry_out.Tie as tie
 
@@ -72,7 +72,7 @@ publish-requires c κs =
     let k = c .before .before in
     let s = k .before .before .before .before .before in
     let f = fits s _ (k .effect3 .given .1) .0 in
-    (s .pre .0, s .pre .1, s .pre .2, omega arith, f .part, room-for _ _ (f .room), f .ways)
+    (s .pre .0, s .pre .1, s .pre .2, omega arith, f .part, f .room, f .ways)
 
 enum-known-effect-4 : tie.Need-enum-known-effect-4
 enum-known-effect-4 c = search needs
@@ -89,7 +89,7 @@ publish-requires-2 c κs =
     let k = c .before .before in
     let s = k .before .before .before .before .before in
     let f = fits s _ (k .effect4 .given .1) .0 in
-    (s .pre .0, s .pre .1, s .pre .2, omega arith, f .part, room-for _ _ (f .room), f .ways)
+    (s .pre .0, s .pre .1, s .pre .2, omega arith, f .part, f .room, f .ways)
 
 cast-set-session-2 : tie.Need-cast-set-session-2
 cast-set-session-2 c = search needs
@@ -120,7 +120,7 @@ receive-requires c κs =
     let k = c .before .before in
     let s = k .before .before .before .before .before in
     let f = fits s _ (k .effect5 .given .1) .0 in
-    (s .pre .0, f .source, f .site, f .part, f .other, room-for _ _ (f .room), waits s _ (k .effect5 .given .1) .0)
+    (s .pre .0, f .source, f .site, f .part, f .other, f .room, waits s _ (k .effect5 .given .1) .0)
 
 returns : tie.Need-returns
 unfolding changesOf putChanges

@@ -14,7 +14,7 @@ enum-told : tie.Need-enum-told
 enum-told c = search needs
 
 add-requires : tie.Need-add-requires
-unfolding Room messageOf
+unfolding messageOf
 add-requires c κs =
     let k = c .before in
     let s = k .before .before .before in
