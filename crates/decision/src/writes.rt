@@ -35,6 +35,7 @@ use table::channels;
 use table::nodes;
 use vector::Vector;
 
+// The part of site m.
 fn site(t: &[u8], m: u8) -> &[u8]
     requires { ⌜ (length (now t) ≡ 57344) × (m < 4) ⌝ }
     ensures { λ r. ⌜ (now r ≡ siteOf (now (t .entry)) m) × (length (now r) ≡ 13056) ⌝ }
