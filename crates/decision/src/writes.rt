@@ -35,6 +35,7 @@ use table::channels;
 use table::nodes;
 use vector::Vector;
 
+// The part of site m.
 fn site(t: &[u8], m: u8) -> &[u8]
     requires { ⌜ (length (now t) ≡ 57344) × (m < 4) ⌝ }
     ensures { λ r. ⌜ (now r ≡ siteOf (now (t .entry)) m) × (length (now r) ≡ 13056) ⌝ }
@@ -161,7 +162,7 @@ fn stored(s: u8, x: Session, p: u8, key: u8, quality: u8, level: i32, stamp: u64
     ensures { λ r. ⌜ outcomeOf r ≡ (Stamped (x .site) stamp and Publish (x .site) p (Update (written (asSession x) key quality level stamp)) ∷ SetSession s (opened (x .site) (withEntry (asSession x .vec) (x .site) stamp) (asSession x .page)) ∷ []) ⌝ }
 {
     let m = x.site;
-    let carried = x.vec;
+    let old = x.vec;
     let message = Message::Update {
         key,
         source: m,
@@ -169,7 +170,7 @@ fn stored(s: u8, x: Session, p: u8, key: u8, quality: u8, level: i32, stamp: u64
         level,
         stamp,
     };
-    let vec = carried.with_entry(m as usize, stamp);
+    let vec = old.with_entry(m as usize, stamp);
     Decided {
         answer: Answer::Stamped { source: m, stamp },
         effect: Effect::Put {
@@ -178,7 +179,7 @@ fn stored(s: u8, x: Session, p: u8, key: u8, quality: u8, level: i32, stamp: u64
             partition: p,
             message,
         },
-        carried,
+        carried: old,
         session: keeping::with_vector(x, vec),
     }
 }

@@ -47,7 +47,7 @@ unfolding outcomeOf changesOf settingIn sends
 returns c =
     let k = c .before .before in
     let s = k .before .before .before .before in
-    let e : sends k ≡ false = sends-loaded k ∙ le-ltb _ _ (c .before .if1 .taken) in
+    let e : sends k ≡ false = sends-loaded k ∙ le-ltb (k .own .result) (k .before .clock .result) (omega (arith, c .before .if1 .taken)) in
     rw (c .done .ensures .0, c .done .ensures .1, beat-answered (s .args .t .now) (s .args .m) (s .args .p) (s .pre .2) (known s .sites), e)
 
 has-room-requires : tie.Need-has-room-requires
@@ -63,7 +63,7 @@ returns-2 c =
     let r = c .before .before in
     let k = r .before .before in
     let s = k .before .before .before .before in
-    let e : sends k ≡ true = sends-loaded k ∙ lt-ltb _ _ (r .before .if1 .left) in
+    let e : sends k ≡ true = sends-loaded k ∙ lt-ltb (k .own .result) (k .before .clock .result) (omega (arith, r .before .if1 .left)) in
     let full = sym (r .has-room .ensures) ∙ not-true _ (c .before .if2 .taken) in
     c .refused .ensures ∙ sym (beat-answered (s .args .t .now) (s .args .m) (s .args .p) (s .pre .2) (known s .sites) ∙ rw (e, full))
 
@@ -76,7 +76,7 @@ returns-3 c =
     let r = c .before .before in
     let k = r .before .before in
     let s = k .before .before .before .before in
-    let e : sends k ≡ true = sends-loaded k ∙ lt-ltb _ _ (r .before .if1 .left) in
+    let e : sends k ≡ true = sends-loaded k ∙ lt-ltb (k .own .result) (k .before .clock .result) (omega (arith, r .before .if1 .left)) in
     let free = sym (r .has-room .ensures) ∙ not-false _ (c .before .if2 .left) in
     rw (c .done2 .ensures .0, c .done2 .ensures .1, beat-answered (s .args .t .now) (s .args .m) (s .args .p) (s .pre .2) (known s .sites), e, free, k .before .clock .ensures, k .before .before .node .ensures .0)
 

@@ -55,7 +55,7 @@ set-clock-requires c κs =
     let k = c .before .before in
     let s = k .before .before .before .before .before in
     let f = fits s _ (k .effect2 .given .1) in
-    (s .pre .0, f .0 .0, f .0 .1)
+    (s .pre .0, omega (arith, f .0), omega (arith, f .0))
 
 enum-known-effect-3 : tie.Need-enum-known-effect-3
 enum-known-effect-3 c = search needs
