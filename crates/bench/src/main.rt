@@ -1,0 +1,150 @@
+// The bench of document 01: events from standard input go into an archive of 4 sites and 4 partitions, and a line for each goes to standard output.
+// In order: bytes and numbers of a line, lines, the reading in pieces of 64 KiB. No contract can say what is read or written. Assumes nothing.
+ghost use Prim.Native.Nat.{_+_, _*_, _≤_};
+ghost use lib.ListN.{length};
+use libc::STDIN_FILENO;
+use libc::STDOUT_FILENO;
+
+// One more byte of output, where there is room.
+fn put(out: &mut [u8; 65536], at: usize, b: u8) -> usize {
+    if at < out.len() {
+        out[at] = b;
+        at + 1
+    } else {
+        at
+    }
+}
+
+fn put_text(out: &mut [u8; 65536], at: usize, text: &[u8]) -> usize {
+    let mut to = at;
+    let mut i = 0;
+    while i < text.len() {
+        to = put(out, to, text[i]);
+        i += 1;
+    }
+    to
+}
+
+fn put_number(out: &mut [u8; 65536], at: usize, x: u64) -> usize {
+    let mut text = [0u8; 20];
+    let k = io::decimal(x, &mut text);
+    put_text(out, at, &text[..k])
+}
+
+// A space, and a number.
+fn put_next(out: &mut [u8; 65536], at: usize, x: u64) -> usize {
+    let to = put(out, at, b' ');
+    put_number(out, to, x)
+}
+
+// A level without its sign.
+fn size(x: i32) -> u64 {
+    let w = x as i64;
+    if w < 0 { (-w) as u64 } else { w as u64 }
+}
+
+fn put_level(out: &mut [u8; 65536], at: usize, x: i32) -> usize {
+    let mut to = put(out, at, b' ');
+    if x < 0 {
+        to = put(out, to, b'-');
+    }
+    put_number(out, to, size(x))
+}
+
+fn wide(x: u8) -> u64 {
+    x as u64
+}
+
+// The answer in the 16 bytes at `from`: number, source, quality, level, stamp.
+fn put_answer(out: &mut [u8; 65536], at: usize, answers: &[u8; 32768], from: usize) -> usize
+    requires { ⌜ from + 16 ≤ 32768 ⌝ }
+{
+    let mut to = put_next(out, at, wide(answers[from]));
+    to = put_next(out, to, wide(answers[from + 1]));
+    to = put_next(out, to, wide(answers[from + 2]));
+    to = put_level(out, to, codec::load_level(answers, from + 4));
+    put_next(out, to, codec::load_u64(answers, from + 8))
+}
+
+fn put_line(
+    out: &mut [u8; 65536],
+    at: usize,
+    place: u64,
+    code: u8,
+    answers: &[u8; 32768],
+    from: usize,
+) -> usize
+    requires { ⌜ from + 16 ≤ 32768 ⌝ }
+{
+    let mut to = put_number(out, at, place);
+    to = put_next(out, to, wide(code));
+    to = put_answer(out, to, answers, from);
+    put(out, to, b'\n')
+}
+
+fn flush(out: &[u8], at: usize) {
+    if at <= out.len() {
+        io::write_all(STDOUT_FILENO, &out[0..at]);
+    }
+}
+
+// Room for a line, which has at most 70 bytes.
+fn room(out: &[u8], at: usize) -> usize {
+    if 65000 < at {
+        flush(out, at);
+        0
+    } else {
+        at
+    }
+}
+
+// A line for each of n events, the first of which has the place after `place`.
+fn lines(events: &[u8], answers: &[u8; 32768], n: usize, place: u64, out: &mut [u8; 65536])
+    requires { ⌜ (32 * n ≤ length (now events)) × (n ≤ 2048) × (place + 2048 ≤ 18446744073709551615) ⌝ }
+{
+    let mut p = place;
+    let mut to = 0;
+    let mut i = 0;
+    while i < n {
+        p += 1;
+        to = room(out, to);
+        to = put_line(out, to, p, events[32 * i], answers, 16 * i);
+        i += 1;
+    }
+    flush(out, to);
+}
+
+// The last line, where bytes are left over.
+fn cut(n: usize, out: &mut [u8; 65536]) {
+    if 0 < n {
+        let mut to = put_text(out, 0, b"cut");
+        to = put_next(out, to, n as u64);
+        to = put(out, to, b'\n');
+        flush(out, to);
+    }
+}
+
+// A full buffer has 2,048 events, so none is ever split between two. The loop's test keeps every place in 64 bits: it fails after 2^69 bytes.
+fn run(buf: &mut [u8], table: &mut [u8; 57344], answers: &mut [u8; 32768], out: &mut [u8; 65536]) {
+    let mut place: u64 = 0;
+    while place <= 18446744073709549567 {
+        let n = io::read_full(STDIN_FILENO, buf);
+        let whole = n - n % 32;
+        let k = archive::run(table, &buf[0..whole], answers);
+        lines(buf, answers, k, place, out);
+        if n < buf.len() {
+            cut(n % 32, out);
+            return;
+        }
+        place += 2048;
+    }
+}
+
+fn main() {
+    let mut buf = io::large_buffer();
+    let mut out = io::large_buffer();
+    let mut answers = [0u8; 32768];
+    let mut table = [0u8; 57344];
+    archive::setup(&mut table, 4, 4);
+    run(&mut buf, &mut table, &mut answers, &mut out);
+}
