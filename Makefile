@@ -1,10 +1,12 @@
 # The two commands of the README.
 
-.PHONY: test
+.PHONY: bench test
 
-# Tests the Rust implementation; then proves every crate from nothing, tries every must-fail edit and runs every program. The last line is rt ci's own
-# 'N passed, 0 failed'.
+# Proves and builds the bench, and runs it on document 01's 17 events.
+bench:
+	@rt check bench > /dev/null
+	@target/bin/bench < vectors/base/document-01.events
+
+# The gate: see scripts/test. Its last line is rt ci's own, 'N passed, 0 failed'.
 test:
-	@rt fmt --check
-	@cd rust && cargo test --offline --release --quiet
-	@rt ci
+	@scripts/test
