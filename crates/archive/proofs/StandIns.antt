@@ -27,8 +27,8 @@ use Rattle.event.specs.Event.{codeLawful, timeOf, levelIn, keysOf, eventOf}
 use Rattle.event.specs.Fields.{uses, zeroAt, restZero, unusedZero}
 use Rattle.steps.specs.Step.{Called}
 use Rattle.archive.specs.Call.{stepCall}
-use Rattle.archive.specs.Story.{isEvent, tableAfter}
-use Rattle.archive.proofs.Story.{eventsOf, step-event, decode-step, told, after-sound}
+use Rattle.archive.specs.Story.{isEvent, eventsOf, tableAfter}
+use Rattle.archive.proofs.Story.{step-event, decode-step, told, after-sound}
 
 -- ---- what is promised of a step, and a table to try it on
 

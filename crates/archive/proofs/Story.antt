@@ -40,8 +40,8 @@ use Rattle.steps.specs.Step.{Called, gives, refused, stepOn}
 use Rattle.archive.specs.Call.{stepCall, setupCall}
 use Rattle.steps.specs.Run.{pieceOf, turned, runBy}
 use Rattle.archive.specs.Run.{piecesOf, runCall}
-use Rattle.archive.specs.Story.{isEvent, tableAfter, linesOf, countOf}
-use Rattle.archive.specs.Promises.{setUp, CausalGet, CausalPage, Conserved, NeverIll, RunIsSteps}
+use Rattle.archive.specs.Story.{isEvent, eventsOf, tableAfter, linesOf, countOf}
+use Rattle.archive.specs.Promises.{setUp, Faithful, CausalGet, CausalPage, Conserved, NeverIll, RunIsSteps}
 
 -- ---- a test that is known
 
@@ -98,10 +98,6 @@ call-sound t e R = go (isEvent e) (λ i. i) (λ i. i)
     go false f g = rw (step-other t e R (g tt) .table) R
 
 -- ---- many calls: the protocol's events among the byte strings
-
-unfoldable pub eventsOf : List (List ℕ) → List Event
-eventsOf [] = []
-eventsOf (e ∷ es) = cond (isEvent e) (eventOf e ∷ eventsOf es) (eventsOf es)
 
 pub after-sound : (t : List ℕ) (es : List (List ℕ)) → Sound t → Sound (tableAfter t es)
 unfolding tableAfter
@@ -192,6 +188,9 @@ module _ (c : Setting) (l : T (settingLawful c)) (t : List ℕ) (long : length t
   few = setting-facts c l .1
 
 -- ---- the promises
+
+pub faithful : Faithful
+faithful c l t long es = let K = run-told c l t long es in (K .state, K .lines)
 
 pub causal-get : CausalGet
 causal-get c l t long es e s k i g =

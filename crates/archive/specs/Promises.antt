@@ -8,6 +8,8 @@ use lib.ListN.{length}
 use Rattle.protocol.specs.Record.{Setting}
 use Rattle.protocol.specs.Event.{GET, plain}
 use Rattle.protocol.specs.declared.Answer.the-variants.{Refused}
+use Rattle.protocol.specs.State.{setup}
+use Rattle.protocol.specs.Step.{after, log}
 use Rattle.protocol.specs.Past.{history}
 use Rattle.protocol.specs.Causal.{GetCausal, PageCausal}
 use Rattle.protocol.specs.Count.{puts, delivers, waiting}
@@ -19,11 +21,17 @@ use Rattle.event.specs.Event.{eventOf}
 use Rattle.steps.specs.Run.{pieceOf}
 use Rattle.archive.specs.Call.{stepCall, setupCall}
 use Rattle.archive.specs.Run.{piecesOf, runCall}
-use Rattle.archive.specs.Story.{isEvent, tableAfter, linesOf, countOf}
+use Rattle.archive.specs.Story.{isEvent, eventsOf, tableAfter, linesOf, countOf}
 
 -- the table t, of any bytes, set up for the constants
 abbrev pub setUp : Setting → List ℕ → List ℕ
 setUp c t = setupCall t (c .sites) (c .parts) .table
+
+-- DEMAND 2, call after call: the table says the protocol's state, and what `step` answered is what the protocol answers; the byte strings that are no
+-- events are refused before it and change nothing
+abbrev pub Faithful : Type 0
+Faithful = (c : Setting) → T (settingLawful c) → (t : List ℕ) → length t ≡ tableLength → (es : List (List ℕ)) →
+    (decode (tableAfter (setUp c t) es) ≡ after (setup c) (eventsOf es)) × (linesOf (setUp c t) es ≡ log (setup c) (eventsOf es))
 
 -- DEMAND 3, of a GET that comes after any event bytes, and of every page as far as it has come
 abbrev pub CausalGet : Type 0

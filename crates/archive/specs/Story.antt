@@ -19,6 +19,11 @@ use Rattle.archive.specs.Call.{stepCall}
 unfoldable pub isEvent : List ℕ → Bool
 isEvent e = eqb (length e) 32 && (codeLawful e && unusedZero e)
 
+-- the protocol's events among byte strings
+unfoldable pub eventsOf : List (List ℕ) → List Event
+eventsOf [] = []
+eventsOf (e ∷ es) = cond (isEvent e) (eventOf e ∷ eventsOf es) (eventsOf es)
+
 unfoldable pub tableAfter : List ℕ → List (List ℕ) → List ℕ
 tableAfter t [] = t
 tableAfter t (e ∷ es) = tableAfter (stepCall t e .table) es
