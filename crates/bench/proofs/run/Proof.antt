@@ -1,4 +1,4 @@
--- `bench::run` ends: the place grows with each full buffer. As many events are answered as there are whole ones in the bytes read. Assumes nothing.
+-- `bench::run` ends: the place grows with each full buffer. No more events are printed than were read whole and answered. Assumes nothing.
 use Prim.Native.Nat.{_-_}
 use mathlib.Core.Path.{_≡_}
 use lib.ListN.{length}
