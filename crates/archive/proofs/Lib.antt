@@ -2,6 +2,7 @@
 -- same writes to two tables, by numbers and parts and by each change, and a session that is not open.
 pub mod Calls
 pub mod Unique
+pub mod Still
 pub mod Story
 pub mod StandIns
 pub mod Writes

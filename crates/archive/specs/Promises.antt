@@ -7,6 +7,7 @@ use lib.Dec.{T}
 use lib.ListN.{length}
 use Rattle.protocol.specs.Record.{Setting}
 use Rattle.protocol.specs.Event.{GET, plain}
+use Rattle.protocol.specs.declared.Refusal.{Refusal}
 use Rattle.protocol.specs.declared.Answer.the-variants.{Refused}
 use Rattle.protocol.specs.State.{setup}
 use Rattle.protocol.specs.Step.{after, log}
@@ -26,6 +27,13 @@ use Rattle.archive.specs.Story.{isEvent, eventsOf, tableAfter, linesOf, 
 -- the table t, of any bytes, set up for the constants
 abbrev pub setUp : Setting → List ℕ → List ℕ
 setUp c t = setupCall t (c .sites) (c .parts) .table
+
+-- DEMAND 1, of any bytes: where `step` or `setup` refuses or waits, no byte of the table changes
+abbrev pub Untouched : Type 0
+Untouched = (t e : List ℕ) (w : Refusal) → stepCall t e .answer ≡ Refused w → stepCall t e .table ≡ t
+
+abbrev pub UntouchedSetup : Type 0
+UntouchedSetup = (t : List ℕ) (sites parts : ℕ) (w : Refusal) → setupCall t sites parts .answer ≡ Refused w → setupCall t sites parts .table ≡ t
 
 -- DEMAND 2, call after call: the table says the protocol's state, and what `step` answered is what the protocol answers; the byte strings that are no
 -- events are refused before it and change nothing
