@@ -28,7 +28,7 @@ pub fn closed() -> Session
     }
 }
 
-// "its vector is all zero"
+// "zero vector, no page"
 pub fn opened(m: u8) -> Session
     ensures { λ r. ⌜ asSession r ≡ opened m zeros noPage ⌝ }
 {

@@ -1,5 +1,5 @@
-// Decisions: what an event is answered, and what it then changes. They read the table and write nothing. Here are the values; the files are, from
-// what is read to what is decided: lookup, search, answers, marks, and the decisions themselves. Assumes nothing.
+// Decisions: what an event is answered, and what it then changes. They read the table and write nothing. Here are the values. The files, from what is
+// read to what is decided: search, lookup, marks, keeping, answers, and the decisions of sessions, pages and writes. Assumes nothing.
 use protocol::Answer;
 use table::Message;
 use table::Reading;
