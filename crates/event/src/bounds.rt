@@ -1,15 +1,8 @@
-// The range of each field, whether its code uses it or not: refusal 11's numbers. In order: a level, page keys, all ten fields. It touches nothing.
+// The range of each field, whether its code uses it or not: refusal 11's numbers. In order: page keys, all ten fields. It touches nothing.
 ghost use mathlib.Core.Path.{_≡_};
-ghost use Rattle.protocol.specs.Needs.{levelLawful};
 ghost use Rattle.event.specs.Ranges.{keysBelow, inRange};
 use crate::Fields;
-
-// "level: −50,000 to 1,000,000 mm from datum"
-pub fn level_lawful(x: i32) -> bool
-    ensures { λ r. ⌜ r ≡ levelLawful x ⌝ }
-{
-    (-50000 <= x) & (x <= 1000000)
-}
+use protocol::limits;
 
 // The keys below the count are 0 to 63.
 pub fn keys_lawful(keys: [u8; 8], count: u8) -> bool
@@ -39,7 +32,7 @@ pub fn in_range(x: Fields, sites: u8, parts: u8) -> [bool; 10]
         (x.from < sites) & (x.from != x.site),
         (0 < x.count) & (x.count <= 8),
         x.time < 281474976710656,
-        level_lawful(x.level),
+        limits::level_lawful(x.level),
         keys_lawful(keys, x.count),
     ]
 }

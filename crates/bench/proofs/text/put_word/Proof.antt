@@ -1,9 +1,9 @@
--- `bench::put_text` ends: the measure is what is left of the text. Assumes nothing.
+-- `bench::text::put_word` ends: the measure is what is left of the text. Assumes nothing.
 use Prim.Native.Nat.{_-_}
 use lib.ListN.{length}
 use borrow.Author.Needs.{needs}
-use Rattle.bench.proofs.put_text.Statement.{statement}
-use Rattle.bench.proofs.put_text.Tie as tie
+use Rattle.bench.proofs.text.put_word.Statement.{statement}
+use Rattle.bench.proofs.text.put_word.Tie as tie
 
 abbrev Inv-loop : tie.InvT-loop
 Inv-loop out₀ at text to₀ i₀ out to i = Unit {0}
@@ -32,8 +32,8 @@ loop-again c = search needs
 returns : tie.Need-returns Inv-loop μ-loop
 returns c = search needs
 
-pub put-text-spec : {M : Type 1} → statement M
-put-text-spec =
+pub put-word-spec : {M : Type 1} → statement M
+put-word-spec =
     tie.close
     (tie.spec
     Inv-loop
