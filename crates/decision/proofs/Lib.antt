@@ -5,7 +5,6 @@ pub mod Formed
 pub mod Told
 pub mod Nested
 pub mod Backward
-pub mod Raised
 pub mod Ladders
 pub mod Room
 pub mod Times

@@ -76,11 +76,12 @@ pub fn read_on(x: Session, marks: [bool; 8], gathered: Vector) -> Session
     y
 }
 
-// With no page, and another vector.
-pub fn ended(x: Session, vec: Vector) -> Session
-    ensures { λ r. ⌜ asSession r ≡ opened (x .site) (entry (vec .e)) noPage ⌝ }
+// With no page.
+pub fn ended(x: Session) -> Session
+    ensures { λ r. ⌜ asSession r ≡ opened (x .site) (entry (x .vec .e)) noPage ⌝ }
 {
     let mut y = opened(x.site);
+    let vec = x.vec;
     y.vec = vec;
     y
 }
