@@ -1,4 +1,4 @@
-// Sessions as decisions leave them, by value. In order: closed and opened, a vector that is raised, and a page that is begun, read on and ended.
+// Sessions as decisions leave them, by value. In order: closed and opened, another vector, and a page that is begun, read on and ended.
 // Assumes nothing.
 ghost use mathlib.Core.Path.{_≡_};
 ghost use mathlib.Core.Bool.{true};

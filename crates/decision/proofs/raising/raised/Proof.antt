@@ -2,7 +2,6 @@
 use mathlib.Core.Path.{ap}
 use borrow.Author.Needs.{needs}
 use Rattle.vector.specs.Vec.{Vec}
-use Rattle.protocol.specs.State.{Session}
 use Rattle.table.specs.Values.{asSession}
 use Rattle.decision.proofs.raising.raised.Statement.{statement}
 use Rattle.decision.proofs.raising.raised.Tie as tie
