@@ -9,7 +9,7 @@ const USUAL: u32 = 4;
 
 /// The archive of the options; 4 sites and 4 partitions where they say nothing.
 pub fn usual(options: &Options) -> Result<Story, Failure> {
-    story(options, USUAL, USUAL).map_err(|message| Failure::Usage(message))
+    story(options, USUAL, USUAL).map_err(Failure::Usage)
 }
 
 /// The archive of a line at `place`; options go before it.

@@ -35,7 +35,7 @@ impl<W: Write> Progress<W> {
     /// One event more.
     pub fn tick(&mut self) {
         self.events += 1;
-        if self.events % BETWEEN_LOOKS == 0 && self.last.elapsed() >= self.every {
+        if self.events.is_multiple_of(BETWEEN_LOOKS) && self.last.elapsed() >= self.every {
             self.last = Instant::now();
             if let Some(screen) = &mut self.screen {
                 self.shown = write!(screen, "\r{} events", self.events).is_ok();

@@ -3,8 +3,7 @@
 
 use std::collections::BTreeMap;
 
-use super::marks::Mark;
-use super::rows::Row;
+use super::marks::{Lane, Mark};
 use super::style::{GAP, LEFT, STEP};
 
 /// The events' places.
@@ -16,15 +15,14 @@ pub struct Columns {
 impl Columns {
     /// The places of events with these marks.
     pub fn of(marks: &[Vec<Mark>]) -> Columns {
-        let mut taken: BTreeMap<Row, i32> = BTreeMap::new();
+        let mut taken: BTreeMap<Lane, i32> = BTreeMap::new();
         let mut places = Vec::new();
         let mut last = LEFT;
         for marks in marks {
-            let free = |mark: &Mark| taken.get(&mark.row).unwrap_or(&LEFT) + GAP + mark.left();
-            let x = marks.iter().map(free).fold(last + STEP, i32::max);
-            for mark in marks {
-                taken.insert(mark.row, x + mark.right());
-            }
+            let rooms = || marks.iter().flat_map(Mark::room);
+            let free = |(lane, left, _)| taken.get(&lane).unwrap_or(&LEFT) + GAP + left;
+            let x = rooms().map(free).fold(last + STEP, i32::max);
+            taken.extend(rooms().map(|(lane, _, right)| (lane, x + right)));
             places.push(x);
             last = x;
         }

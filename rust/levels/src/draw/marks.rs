@@ -23,8 +23,17 @@ pub struct Mark {
     pub up: Vec<u8>,
     /// See `up`.
     pub down: Vec<u8>,
-    /// Room to the right beyond the labels.
-    room: i32,
+    /// Room for the name of a page, which stands right of here above all marks.
+    page: i32,
+}
+
+/// Where labels must not touch.
+#[derive(Clone, Copy, Debug, PartialEq, Eq, PartialOrd, Ord)]
+pub enum Lane {
+    /// A line, with the labels above and below it.
+    On(Row),
+    /// The room above a session's line.
+    Above(Row),
 }
 
 /// Where the text of a stub begins, right of its mark.
@@ -33,7 +42,7 @@ pub const STUB_TEXT: i32 = 24;
 impl Mark {
     fn new(row: Row, shape: Shape, session: Option<u8>) -> Mark {
         let (above, below, up, down) = (Vec::new(), Vec::new(), Vec::new(), Vec::new());
-        Mark { row, shape, session, above, below, up, down, room: 0 }
+        Mark { row, shape, session, above, below, up, down, page: 0 }
     }
 
     fn above(mut self, lines: &[String]) -> Mark {
@@ -46,8 +55,8 @@ impl Mark {
         self
     }
 
-    fn with_room(mut self, room: i32) -> Mark {
-        self.room = room;
+    fn with_page(mut self, keys: &[u8]) -> Mark {
+        self.page = text_width(&page_text(keys));
         self
     }
 
@@ -57,17 +66,22 @@ impl Mark {
         self
     }
 
-    /// The room that it takes left of its middle.
-    pub fn left(&self) -> i32 {
+    /// The room that it takes: on which line, left and right of its middle. Names of
+    /// pages stand in a lane of their own above their line.
+    pub fn room(&self) -> impl Iterator<Item = (Lane, i32, i32)> {
+        let page = (self.page > 0).then_some((Lane::Above(self.row), 0, self.page));
+        [(Lane::On(self.row), self.left(), self.right())].into_iter().chain(page)
+    }
+
+    fn left(&self) -> i32 {
         let labels = self.above.iter().chain(&self.below);
         labels.map(|text| text_width(text) / 2 + 1).fold(HALF_MARK, i32::max)
     }
 
-    /// The room that it takes right of its middle.
-    pub fn right(&self) -> i32 {
+    fn right(&self) -> i32 {
         let stubs = [&self.up, &self.down].into_iter().filter(|sites| !sites.is_empty());
         let stubs = stubs.map(|sites| STUB_TEXT + text_width(&stub_text(sites)));
-        stubs.fold(self.left().max(self.room), i32::max)
+        stubs.fold(self.left(), i32::max)
     }
 
     /// Its labels, each with its baseline, when the line is at `y`.
@@ -78,6 +92,9 @@ impl Mark {
         above.chain(below).map(|(text, baseline)| (text.as_str(), baseline))
     }
 }
+
+/// There are sessions 0 to 15; a greater number has no line.
+const SESSIONS: u8 = 16;
 
 /// The sites of a stub.
 pub fn stub_text(sites: &[u8]) -> String {
@@ -93,7 +110,7 @@ pub fn page_text(keys: &[u8]) -> String {
 /// The marks of an event: at its node, at its session, or nowhere.
 pub fn marks_of(happening: &Happening, left_over: &[u8]) -> Vec<Mark> {
     let session = happening.session();
-    let of_session = session.filter(|session| *session < 16).map(Row::Session);
+    let of_session = session.filter(|session| *session < SESSIONS).map(Row::Session);
     let of_node =
         happening.node.map(|node| Row::Node { partition: node.partition, site: node.site });
     let Ok(event) = happening.piece.event() else {
@@ -127,10 +144,7 @@ fn at_session(row: Row, event: &Event, session: Option<u8>) -> Mark {
             Mark::new(row, Shape::Ring, session).below(&[format!("at site {site}")])
         }
         Event::Close { .. } => Mark::new(row, Shape::Bar, session),
-        Event::Begin { keys, .. } => {
-            let room = text_width(&page_text(keys.as_slice()));
-            Mark::new(row, Shape::Dot, session).with_room(room)
-        }
+        Event::Begin { keys, .. } => Mark::new(row, Shape::Dot, session).with_page(keys.as_slice()),
         _ => Mark::new(row, Shape::Dot, session),
     }
 }

@@ -39,7 +39,7 @@ impl fmt::Display for Summary {
         let events = counted(self.events(), "event");
         write!(
             f,
-            "{events}: {done} done, {shown} shown, {nothing} with nothing to show, {waits} waiting, {refused} refused"
+            "{events}: {done} done, {shown} shown, {nothing} with nothing to show, {waits} waits, {refused} refused"
         )
     }
 }
