@@ -1,12 +1,14 @@
 //! A run as a space-time picture: an SVG with a line for each session and each node,
 //! events from left to right, an arrow for each delivery.
 //!
-//! [`travels`] follows the messages, `marks` says what is drawn for an event, `rows`
+//! `travels` follows the messages, `marks` says what is drawn for an event, `rows`
 //! and `columns` where it stands, and the rest draws it: `shapes`, `paths`, `legend`,
 //! in the colours of `style`, through `xml`.
 
 mod columns;
+mod labels;
 mod legend;
+mod mark;
 mod marks;
 mod paths;
 mod rows;
@@ -19,7 +21,8 @@ mod xml;
 use crate::story::Happening;
 use crate::words::{Sentence, counted};
 use columns::Columns;
-use marks::{Mark, marks_of};
+use mark::Mark;
+use marks::marks_of;
 use rows::Rows;
 use spans::spans;
 use style::{LEFT, STYLE};

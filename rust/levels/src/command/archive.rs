@@ -3,6 +3,7 @@
 use super::options::Options;
 use crate::failure::Failure;
 use crate::story::Story;
+use crate::words::counted;
 
 /// The bench's numbers of sites and partitions.
 const USUAL: u32 = 4;
@@ -27,9 +28,8 @@ fn story(options: &Options, sites: u32, partitions: u32) -> Result<Story, String
     let sites = options.sites.unwrap_or(sites);
     let partitions = options.partitions.unwrap_or(partitions);
     Story::new(sites, partitions).map_err(|refusal| {
-        let number = refusal.number();
-        format!(
-            "{sites} sites and {partitions} partitions are refused with {number}: each is 1 to 4"
-        )
+        let (number, named) = (refusal.number(), [(sites, "site"), (partitions, "partition")]);
+        let [sites, partitions] = named.map(|(count, name)| counted(count.into(), name));
+        format!("{sites} and {partitions} are refused with {number}: each is 1 to 4")
     })
 }

@@ -3,7 +3,7 @@
 
 use std::collections::BTreeMap;
 
-use super::marks::{Lane, Mark};
+use super::mark::{Lane, Mark};
 use super::style::{GAP, LEFT, STEP};
 
 /// The events' places.

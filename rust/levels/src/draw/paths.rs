@@ -3,7 +3,8 @@
 use level_archive::Message;
 
 use super::Plan;
-use super::marks::{Mark, STUB_TEXT, page_text, stub_text};
+use super::labels::{page_text, stub_text};
+use super::mark::{Mark, STUB_TEXT};
 use super::rows::Row;
 use super::spans::Span;
 use super::style::{LEFT, colour};
@@ -99,8 +100,7 @@ pub fn arrow(xml: &mut Xml, plan: &Plan, travel: &Travel) {
     else {
         return;
     };
-    let down = (to.1 - from.1).signum();
-    let path = format!("M{} {}L{} {}", from.0 + 7, from.1 + 7 * down, to.0, to.1 - 4 * down);
+    let path = way(from, to);
     let (class, what) = match &travel.message {
         Message::Update(record) => ("arrow", update(record)),
         Message::Heartbeat { source, stamp } => {
@@ -111,6 +111,18 @@ pub fn arrow(xml: &mut Xml, plan: &Plan, travel: &Travel) {
     xml.text("title", &[], &what);
     xml.leaf("path", &[("class", &class), ("d", &path), ("marker-end", &"url(#head)")]);
     xml.close();
+}
+
+/// A straight way, or, where it would be steep and run through the labels below its
+/// beginning, one that goes to the right first.
+fn way(from: (i32, i32), to: (i32, i32)) -> String {
+    let down = (to.1 - from.1).signum();
+    let (x, y) = (to.0, to.1 - 4 * down);
+    if to.0 - from.0 < 60 {
+        format!("M{} {}Q{} {} {x} {y}", from.0 + 9, from.1, from.0 + 22, from.1)
+    } else {
+        format!("M{} {}L{x} {y}", from.0 + 7, from.1 + 7 * down)
+    }
 }
 
 /// Short arrows for messages that are still on their way, with the sites' numbers.

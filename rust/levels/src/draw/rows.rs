@@ -4,7 +4,7 @@
 
 use std::collections::BTreeSet;
 
-use super::marks::Mark;
+use super::mark::Mark;
 
 /// A line of the picture.
 #[derive(Clone, Copy, Debug, PartialEq, Eq, PartialOrd, Ord)]

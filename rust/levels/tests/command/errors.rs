@@ -119,7 +119,7 @@ fn a_wrong_command_line_says_where_help_is() {
     );
     assert_eq!(
         levels(&["run"], b"# five\nsites 5 partitions 1\n").errors,
-        "standard input:2:1: 5 sites and 1 partitions are refused with 11: each is 1 to 4\n"
+        "standard input:2:1: 5 sites and 1 partition are refused with 11: each is 1 to 4\n"
     );
     assert_eq!(
         levels(&["run", "/there/is/no/such.file"], b"").errors.split(':').next(),
