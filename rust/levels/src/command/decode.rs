@@ -25,7 +25,7 @@ pub fn decode(options: &Options) -> Result<(), Failure> {
                 if !options.lenient {
                     return Err(Failure::Input(format!("{name}: {fault}")));
                 }
-                lines.push_str(&format!("# {fault}: {piece}"));
+                lines.push_str(&format!("# {fault}: bytes{}", piece.hex()));
             }
         }
         lines.push('\n');

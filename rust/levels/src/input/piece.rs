@@ -31,6 +31,11 @@ impl Piece {
         &self.room[..self.length]
     }
 
+    /// Its bytes in hexadecimal digits, with a space before each.
+    pub fn hex(&self) -> String {
+        self.bytes().iter().map(|byte| format!(" {byte:02x}")).collect()
+    }
+
     /// The event, or why the bytes can't be written as text.
     pub fn event(&self) -> Result<Event, EventError> {
         self.event
@@ -38,12 +43,11 @@ impl Piece {
 }
 
 impl fmt::Display for Piece {
-    /// The event's text, or the bytes.
+    /// The event's text, or its bytes.
     fn fmt(&self, f: &mut fmt::Formatter<'_>) -> fmt::Result {
-        if let Ok(event) = self.event {
-            return event.fmt(f);
+        match self.event {
+            Ok(event) => event.fmt(f),
+            Err(_) => write!(f, "event{}", self.hex()),
         }
-        f.write_str("bytes")?;
-        self.bytes().iter().try_for_each(|byte| write!(f, " {byte:02x}"))
     }
 }

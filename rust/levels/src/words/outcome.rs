@@ -32,7 +32,7 @@ fn done(happening: &Happening) -> String {
             format!("is done with stamp {stamp}, and there is no other site to tell")
         }
         Detail::Sent { stamp, to } => format!("sends stamp {stamp} to {}", named("site", to)),
-        Detail::Told(stamp) => format!("sends nothing, as stamp {stamp} is its last already"),
+        Detail::Told(stamp) => format!("sends nothing: its clock has not passed {stamp}"),
         Detail::Arrived { message, heard } => arrived(happening, message, *heard),
         Detail::PageEnded => "is done, and its open page ends".to_string(),
         _ => "is done".to_string(),

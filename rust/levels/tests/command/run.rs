@@ -84,7 +84,7 @@ fn waits_name_what_they_need() {
         "END session 1 closes the page, and the session has seen [10, 7, 0]",
         "PUT session 2 key 1 level 4 waits: the clock of node 2,0 is 3, it must pass 20",
         "CLOCK 2,0 at 2 is refused with 19: the time is before the clock, which is 3",
-        "BEAT 1,0 sends nothing, as stamp 20 is its last already",
+        "BEAT 1,0 sends nothing: its clock has not passed 20",
         "BEAT 2,0 sends stamp 3 to sites 0 and 1",
         "CLOSE session 2 is done",
         "CLOSE session 2 is refused with 12: the session is not open",
@@ -141,7 +141,7 @@ fn bytes_that_say_no_event_are_run_too() {
     bytes[0] = 99;
     let text = levels(&["run"], &bytes).text();
     assert!(text.contains(" 00 is refused with 10: the event's code is not 1 to 10\n"), "{text}");
-    assert!(text.contains("bytes 00 00 00 00 00 00 00 00 is refused with 23: "), "{text}");
+    assert!(text.contains("event 00 00 00 00 00 00 00 00 is refused with 23: "), "{text}");
 }
 
 #[test]
