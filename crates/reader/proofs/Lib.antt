@@ -1,0 +1,2 @@
+-- The laws of pieces.
+pub mod Pieces
