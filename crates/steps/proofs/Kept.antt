@@ -59,6 +59,7 @@ turned-sound t es b i u w r S = subst Sound (sym (ap (λ x. x .table) r)) (piece
 
 -- ---- a table that is refused
 
-pub away-by : (n i : ℕ) (es b e w : List ℕ) (a : Answer) → e ≡ pieceOf es i → a ≡ refusedWith (cond (eqb (length e) 32) n 23) → w ≡ putAnswer b (16 * i) a → (t : List ℕ) → ran t w ≡ turned (turnedAway n) i t es b
+pub away-by : (n i : ℕ) (es b e w : List ℕ) (a : Answer) → e ≡ pieceOf es i → a ≡ refusedWith (cond (eqb (length e) 32) n 23)
+    → w ≡ putAnswer b (16 * i) a → (t : List ℕ) → ran t w ≡ turned (turnedAway n) i t es b
 unfolding turned turnedAway
 away-by n i es b e w a q r z t = ap (ran t) (z ∙ ap (putAnswer b (16 * i)) (r ∙ ap (λ x. refusedWith (cond (eqb (length x) 32) n 23)) q))

@@ -31,8 +31,8 @@ returns c =
     let n = r .before in
     let x = n .before in
     let a = x .before .before .before .args in
-    away-by (a .number) (a .i) (a .es .now) (a .b .now) _ _ (r .refused .result) (x .event-of .ensures) (r .refused .ensures ∙ ap refusedWith (n .number-for .ensures))
-    (z .store-answer .ensures)
+    away-by (a .number) (a .i) (a .es .now) (a .b .now) _ _ (r .refused .result) (x .event-of .ensures)
+    (r .refused .ensures ∙ ap refusedWith (n .number-for .ensures)) (z .store-answer .ensures)
 
 pub turn-away-spec : {M : Type 1} → statement M
 turn-away-spec =
