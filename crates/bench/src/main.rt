@@ -67,18 +67,18 @@ fn lines(events: &[u8], answers: &[u8; 32768], n: usize, place: u64, out: &mut [
     while i < n {
         p += 1;
         to = room(out, to);
-        to = put_line(out, to, p, events[32 * i], answers, 16 * i);
+        let e = reader::event_of(events, i);
+        to = put_line(out, to, p, e[0], answers, 16 * i);
         i += 1;
     }
     flush(out, to);
 }
 
 // The last line, where bytes are left over.
-fn cut(n: usize, out: &mut [u8; 65536]) {
-    if 0 < n {
+fn cut(left: &[u8], out: &mut [u8; 65536]) {
+    if 0 < left.len() {
         let mut to = text::put_word(out, 0, b"cut");
-        to = text::put_next(out, to, n as u64);
-        to = text::put(out, to, b'\n');
+        to = text::put_next(out, to, left.len() as u64);
         flush(out, to);
     }
 }
@@ -88,11 +88,12 @@ fn run(buf: &mut [u8], table: &mut [u8; 57344], answers: &mut [u8; 32768], out: 
     let mut place: u64 = 0;
     while place <= 18446744073709549567 {
         let n = io::read_full(STDIN_FILENO, buf);
+        let events = &buf[0..n];
         let whole = n - n % 32;
-        let k = archive::run(table, &buf[0..whole], answers);
-        lines(buf, answers, k, place, out);
+        let k = archive::run(table, &events[0..whole], answers);
+        lines(events, answers, k, place, out);
         if n < buf.len() {
-            cut(n % 32, out);
+            cut(reader::event_of(events, n / 32), out);
             return;
         }
         place += 2048;
