@@ -79,6 +79,7 @@ fn cut(left: &[u8], out: &mut [u8; 65536]) {
     if 0 < left.len() {
         let mut to = text::put_word(out, 0, b"cut");
         to = text::put_next(out, to, left.len() as u64);
+        to = text::put(out, to, b'\n');
         flush(out, to);
     }
 }
