@@ -1,6 +1,6 @@
 -- Refusal 11 as the code tests it, field by field: each field's range, and a field that is zero where it is not used and in its range where it
 -- is. That this is `unusedZero` with the protocol's `ranges` is proved in proofs/Ranges. Assumes nothing.
-use Prim.Native.Nat.{ℕ, _-_, _^_}
+use Prim.Native.Nat.{ℕ, _-_, _^_, min}
 use mathlib.Core.Bool.{Bool, false, not, _&&_, _||_}
 use mathlib.Core.List.{List, [], _∷_}
 use lib.Dec.{leb, ltb, eqb}
@@ -16,7 +16,7 @@ use Rattle.event.specs.Values.{fieldsIn}
 
 -- of the eight keys those below the count are 0 to 63
 unfoldable pub keysBelow : List ℕ → ℕ → Bool
-keysBelow ks count = allBelow 8 (λ i. leb count i || ltb (getD ks i 0) 64)
+keysBelow ks count = allBelow (min 8 count) (λ i. ltb (getD ks i 0) 64)
 
 -- the range of each field, in the order of their numbers
 unfoldable pub inRange : Setting → Fields → List Bool

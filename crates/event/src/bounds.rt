@@ -1,18 +1,26 @@
 // The range of each field, whether its code uses it or not: refusal 11's numbers. In order: page keys, all ten fields. It touches nothing.
 ghost use mathlib.Core.Path.{_≡_};
+ghost use Prim.Native.Nat.{_≤_, min};
 ghost use Rattle.event.specs.Ranges.{keysBelow, inRange};
 use crate::Fields;
 use protocol::limits;
 
-// The keys below the count are 0 to 63.
+// How many of the eight page keys the count names.
+fn named(count: u8) -> usize
+    ensures { λ r. ⌜ (r ≡ min 8 count) × (r ≤ 8) ⌝ }
+{
+    if count < 8 { count as usize } else { 8 }
+}
+
+// The keys below the count, of the eight that there are, are 0 to 63.
 pub fn keys_lawful(keys: [u8; 8], count: u8) -> bool
     ensures { λ r. ⌜ r ≡ keysBelow keys count ⌝ }
 {
-    let n = count as usize;
+    let n = named(count);
     let mut all = true;
     let mut i = 0;
-    while i < 8 {
-        all = all & ((n <= i) | (keys[i] < 64));
+    while i < n {
+        all = all & (keys[i] < 64);
         i += 1;
     }
     all

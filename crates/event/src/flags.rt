@@ -51,11 +51,14 @@ pub fn zero(e: &[u8]) -> [bool; 10]
     ]
 }
 
-// "Page keys beyond the count are zero."
+// "Page keys beyond the count are zero." Most events have no page keys at all.
 pub fn rest_zero(e: &[u8]) -> bool
     requires { ⌜ length (now e) ≡ 32 ⌝ }
     ensures { λ r. ⌜ r ≡ restZero (now (e .entry)) ⌝ }
 {
+    if codec::load_u64(e, 20) == 0 {
+        return true;
+    }
     let count = codec::load_u8(e, 7) as usize;
     let mut all = true;
     let mut i = 0;
