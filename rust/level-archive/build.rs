@@ -1,0 +1,31 @@
+//! Links the proved static library, `libarchive.a`: from the folder that
+//! LEVEL_ARCHIVE_LIB_DIR names, or else from target/staticlib of the repository.
+
+use std::env;
+use std::path::{Path, PathBuf};
+use std::process::exit;
+
+const VARIABLE: &str = "LEVEL_ARCHIVE_LIB_DIR";
+
+fn folder() -> PathBuf {
+    match env::var_os(VARIABLE) {
+        Some(folder) => PathBuf::from(folder),
+        None => Path::new(env!("CARGO_MANIFEST_DIR")).join("../../target/staticlib"),
+    }
+}
+
+fn main() {
+    let folder = folder();
+    let library = folder.join("libarchive.a");
+    println!("cargo::rerun-if-env-changed={VARIABLE}");
+    println!("cargo::rerun-if-changed={}", library.display());
+    if !library.is_file() {
+        println!("cargo::error=there is no {}", library.display());
+        println!(
+            "cargo::error=run `make library` in the repository's folder, or name the folder that has libarchive.a in {VARIABLE}"
+        );
+        exit(1);
+    }
+    println!("cargo::rustc-link-search=native={}", folder.display());
+    println!("cargo::rustc-link-lib=static=archive");
+}

@@ -1,0 +1,58 @@
+//! The level archive for Rust programs: a safe face of the proved library.
+//!
+//! Gauge readings are written at up to four sites, travel to the others, and are
+//! read so that nobody is ever shown a correction without the reading it corrects.
+//!
+//! * [`Archive`] is the archive over its 57,344 bytes, its own or lent.
+//! * [`Event`] is what happens; [`Answer`] is what the archive says to it, a
+//!   [`Refusal`] among them.
+//! * [`View`] shows what a table holds.
+//! * [`sys`] has the three proved functions as they are.
+//!
+//! ```
+//! use level_archive::{Answer, Archive, Event, Quality};
+//!
+//! let mut archive = Archive::new(2, 1)?; // 2 sites, 1 partition
+//! archive.step(&Event::open(0, 0)); // session 0 at site 0
+//! archive.step(&Event::open(1, 1)); // session 1 at site 1
+//! archive.step(&Event::clock(0, 0, 100)); // the clock of node 0,0
+//! archive.step(&Event::put(0, 7, Quality::Measured, 1250)); // gauge 7 stands at 1250 mm
+//! assert_eq!(archive.step(&Event::get(1, 7)), Answer::Nothing); // site 1 has not heard of it
+//! archive.step(&Event::deliver(0, 1, 0)); // the update arrives
+//! assert_eq!(archive.step(&Event::get(1, 7)).to_string(), "1250 mm, measured, site 0 at 100");
+//! # Ok::<(), level_archive::Refusal>(())
+//! ```
+//!
+//! Everything about an event or a table is decided by the proved core, for any
+//! bytes: this crate passes bytes on, and puts names on numbers. Nothing here panics.
+
+#![deny(unsafe_op_in_unsafe_fn)]
+#![warn(missing_docs)]
+
+mod answer;
+mod archive;
+mod event;
+mod event_bytes;
+mod page_keys;
+mod quality;
+mod refusal;
+pub mod sys;
+mod view;
+
+pub use answer::{Answer, Reading, Values};
+pub use archive::Archive;
+pub use event::Event;
+pub use event_bytes::EventError;
+pub use page_keys::{PageKeys, TooManyKeys};
+pub use quality::Quality;
+pub use refusal::Refusal;
+pub use view::{Message, NodeView, PageView, Record, SessionView, View};
+
+/// The length of a table.
+pub const TABLE_BYTES: usize = 57_344;
+
+/// The length of an event.
+pub const EVENT_BYTES: usize = 32;
+
+/// The length of an answer that [`Archive::run_bytes`] writes.
+pub const ANSWER_BYTES: usize = 16;

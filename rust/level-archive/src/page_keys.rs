@@ -1,0 +1,70 @@
+//! The keys of a page.
+
+use std::error::Error;
+use std::fmt;
+
+/// Up to 8 keys. None, and any numbers, may be written: the archive refuses them.
+///
+/// ```
+/// use level_archive::PageKeys;
+///
+/// assert_eq!(PageKeys::new(&[4, 5]).map(|keys| keys.as_slice().to_vec()), Some(vec![4, 5]));
+/// assert_eq!(PageKeys::new(&[0; 9]), None);
+/// ```
+#[derive(Clone, Copy, Default, PartialEq, Eq, Hash)]
+pub struct PageKeys {
+    count: u8,
+    keys: [u8; PageKeys::MOST], // zero from the count on
+}
+
+impl PageKeys {
+    /// How many there may be.
+    pub const MOST: usize = 8;
+
+    /// The keys in this order; `None` of more than 8.
+    pub const fn new(keys: &[u8]) -> Option<PageKeys> {
+        if keys.len() > PageKeys::MOST {
+            return None;
+        }
+        let mut page = PageKeys { count: keys.len() as u8, keys: [0; PageKeys::MOST] };
+        let mut place = 0;
+        while place < keys.len() {
+            page.keys[place] = keys[place];
+            place += 1;
+        }
+        Some(page)
+    }
+
+    /// The keys.
+    pub fn as_slice(&self) -> &[u8] {
+        self.keys.get(..usize::from(self.count)).unwrap_or_default()
+    }
+
+    /// How many there are, 0 to 8.
+    pub const fn count(&self) -> u8 {
+        self.count
+    }
+
+    /// The eight bytes of an event, zero from the count on.
+    pub(crate) const fn bytes(&self) -> [u8; PageKeys::MOST] {
+        self.keys
+    }
+}
+
+impl fmt::Debug for PageKeys {
+    fn fmt(&self, f: &mut fmt::Formatter<'_>) -> fmt::Result {
+        self.as_slice().fmt(f)
+    }
+}
+
+/// More than 8 keys for a page.
+#[derive(Clone, Copy, Debug, PartialEq, Eq, Hash)]
+pub struct TooManyKeys;
+
+impl fmt::Display for TooManyKeys {
+    fn fmt(&self, f: &mut fmt::Formatter<'_>) -> fmt::Result {
+        f.pad("a page has at most 8 keys")
+    }
+}
+
+impl Error for TooManyKeys {}

@@ -1,0 +1,61 @@
+//! A reading's quality.
+
+use std::fmt;
+
+/// How a level came to be known.
+///
+/// ```
+/// use level_archive::Quality;
+///
+/// assert_eq!(Quality::try_from(1), Ok(Quality::Corrected));
+/// assert_eq!(Quality::try_from(3), Err(3));
+/// assert_eq!(Quality::Estimated.to_string(), "estimated");
+/// ```
+#[derive(Clone, Copy, Debug, Default, PartialEq, Eq, PartialOrd, Ord, Hash)]
+#[repr(u8)]
+pub enum Quality {
+    /// 0: read from the gauge.
+    #[default]
+    Measured = 0,
+    /// 1: put right afterwards.
+    Corrected = 1,
+    /// 2: worked out without the gauge.
+    Estimated = 2,
+}
+
+impl Quality {
+    /// Document 01's number, 0 to 2.
+    pub const fn number(self) -> u8 {
+        self as u8
+    }
+}
+
+impl TryFrom<u8> for Quality {
+    type Error = u8;
+
+    /// The quality of a number; a number not 0 to 2 comes back.
+    fn try_from(number: u8) -> Result<Quality, u8> {
+        match number {
+            0 => Ok(Quality::Measured),
+            1 => Ok(Quality::Corrected),
+            2 => Ok(Quality::Estimated),
+            other => Err(other),
+        }
+    }
+}
+
+impl From<Quality> for u8 {
+    fn from(quality: Quality) -> u8 {
+        quality.number()
+    }
+}
+
+impl fmt::Display for Quality {
+    fn fmt(&self, f: &mut fmt::Formatter<'_>) -> fmt::Result {
+        f.pad(match self {
+            Quality::Measured => "measured",
+            Quality::Corrected => "corrected",
+            Quality::Estimated => "estimated",
+        })
+    }
+}
