@@ -75,11 +75,15 @@ pub struct Stream {
 }
 
 impl Stream {
-    /// A stream from a seed; the style's site and partition numbers must be
-    /// 1 to 4.
+    /// A stream from a seed, on an empty archive; the style's site and
+    /// partition numbers must be 1 to 4.
     pub fn new(seed: u64, style: Style) -> Stream {
+        Stream::on(Archive::new(style.sites, style.partitions).expect("1 to 4"), seed, style)
+    }
+
+    /// A stream from a seed, on an archive with the style's numbers.
+    pub fn on(archive: Archive, seed: u64, style: Style) -> Stream {
         let mut random = Random::new(seed);
-        let archive = Archive::new(style.sites, style.partitions).expect("1 to 4");
         let few = random.between(2, 12);
         let keys = (0..few).map(|_| random.below(KEYS) as u8).collect();
         let late = LAST_TIME - random.below(4 * style.length + 8) as u64;
