@@ -75,15 +75,11 @@ pub struct Stream {
 }
 
 impl Stream {
-    /// A stream from a seed, on an empty archive; the style's site and
-    /// partition numbers must be 1 to 4.
+    /// A stream from a seed; the style's site and partition numbers must be
+    /// 1 to 4.
     pub fn new(seed: u64, style: Style) -> Stream {
-        Stream::on(Archive::new(style.sites, style.partitions).expect("1 to 4"), seed, style)
-    }
-
-    /// A stream from a seed, on an archive with the style's numbers.
-    pub fn on(archive: Archive, seed: u64, style: Style) -> Stream {
         let mut random = Random::new(seed);
+        let archive = Archive::new(style.sites, style.partitions).expect("1 to 4");
         let few = random.between(2, 12);
         let keys = (0..few).map(|_| random.below(KEYS) as u8).collect();
         let late = LAST_TIME - random.below(4 * style.length + 8) as u64;
@@ -114,6 +110,18 @@ impl Stream {
         }
         self.note(length);
         &self.event[..length]
+    }
+
+    /// Takes an event of 32 bytes that comes from elsewhere, so that the stream
+    /// goes on behind it.
+    pub fn take(&mut self, event: &Bytes) {
+        self.event[..EVENT_BYTES].copy_from_slice(event);
+        self.note(EVENT_BYTES);
+    }
+
+    /// The archive that the stream's events have made.
+    pub fn archive(&self) -> &Archive {
+        &self.archive
     }
 
     /// Takes the event into the stream's own archive, and plans for a wait.
