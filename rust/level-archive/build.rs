@@ -3,7 +3,6 @@
 
 use std::env;
 use std::path::{Path, PathBuf};
-use std::process::exit;
 
 const VARIABLE: &str = "LEVEL_ARCHIVE_LIB_DIR";
 
@@ -15,17 +14,19 @@ fn folder() -> PathBuf {
 }
 
 fn main() {
-    let folder = folder();
-    let library = folder.join("libarchive.a");
+    let library = folder().join("libarchive.a");
     println!("cargo::rerun-if-env-changed={VARIABLE}");
     println!("cargo::rerun-if-changed={}", library.display());
-    if !library.is_file() {
+    let Ok(library) = library.canonicalize() else {
         println!("cargo::error=there is no {}", library.display());
         println!(
-            "cargo::error=run `make library` in the repository's folder, or name the folder that has libarchive.a in {VARIABLE}"
+            "cargo::error=run `make library` in the repository's folder, or set {VARIABLE} to the folder that has it"
         );
-        exit(1);
-    }
+        return;
+    };
+    let folder = library.parent().unwrap_or(&library);
     println!("cargo::rustc-link-search=native={}", folder.display());
     println!("cargo::rustc-link-lib=static=archive");
+    // for the tests that compile C
+    println!("cargo::rustc-env=LEVEL_ARCHIVE_LIBRARY={}", library.display());
 }

@@ -3,6 +3,7 @@
 use std::fmt;
 
 use crate::ANSWER_BYTES;
+use crate::part::Part;
 use crate::quality::Quality;
 use crate::refusal::Refusal;
 
@@ -114,19 +115,15 @@ impl Answer {
 
     /// The answer in 16 bytes; `None` for bytes that the archive does not give.
     pub fn from_bytes(bytes: &[u8]) -> Option<Answer> {
-        let [number, source, quality, 0, l0, l1, l2, l3, stamp @ ..] =
-            *<&[u8; ANSWER_BYTES]>::try_from(bytes).ok()?
-        else {
-            return None;
-        };
-        let level = i32::from_le_bytes([l0, l1, l2, l3]);
-        Answer::from_values(Values {
-            number,
-            source,
-            quality,
-            level,
-            stamp: u64::from_le_bytes(stamp),
-        })
+        let part = Part(bytes);
+        let answer = Answer::from_values(Values {
+            number: part.byte(0),
+            source: part.byte(1),
+            quality: part.byte(2),
+            level: part.level(4),
+            stamp: part.number(8),
+        })?;
+        (answer.to_bytes() == bytes).then_some(answer)
     }
 
     /// Of the core's values. The core gives no others than `from_values` takes;

@@ -1,4 +1,6 @@
-//! The archive over its table.
+//! The archive over its table. What a call answers, the proved core decides.
+
+use std::fmt;
 
 use crate::answer::Answer;
 use crate::event::Event;
@@ -20,13 +22,13 @@ use crate::{ANSWER_BYTES, EVENT_BYTES, TABLE_BYTES, sys};
 /// assert_eq!(archive.step(&Event::get(0, 7)).to_string(), "1250 mm, measured, site 0 at 100");
 /// # Ok::<(), level_archive::Refusal>(())
 /// ```
-#[derive(Clone, Debug, PartialEq, Eq)]
+#[derive(Clone, PartialEq, Eq)]
 pub struct Archive<B = Box<[u8]>> {
     bytes: B,
 }
 
 impl Archive {
-    /// An empty archive with a table of its own.
+    /// An empty archive with a table of its own. Refuses a number that isn't 1 to 4.
     pub fn new(sites: u32, partitions: u32) -> Result<Archive, Refusal> {
         let bytes = vec![0; TABLE_BYTES].into_boxed_slice();
         Archive::setup(bytes, sites, partitions).map_err(|(refusal, _)| refusal)
@@ -36,6 +38,16 @@ impl Archive {
 impl<B: AsRef<[u8]> + AsMut<[u8]>> Archive<B> {
     /// Makes lent bytes empty, whatever lay in them. On refusal (23, 11) they come
     /// back unchanged.
+    ///
+    /// ```
+    /// use level_archive::{Archive, Refusal, TABLE_BYTES};
+    ///
+    /// let mut bytes = vec![0xff; TABLE_BYTES];
+    /// let archive = Archive::setup(&mut bytes[..], 4, 4).map_err(|(refusal, _)| refusal)?;
+    /// assert_eq!(archive.bytes()[..3], [4, 4, 0]);
+    /// assert_eq!(Archive::setup([7; 3], 4, 4), Err((Refusal::WrongLength, [7; 3])));
+    /// # Ok::<(), Refusal>(())
+    /// ```
     pub fn setup(mut bytes: B, sites: u32, partitions: u32) -> Result<Archive<B>, (Refusal, B)> {
         match Answer::of_core(sys::setup(bytes.as_mut(), sites, partitions)) {
             Answer::Refused(refusal) => Err((refusal, bytes)),
@@ -45,11 +57,19 @@ impl<B: AsRef<[u8]> + AsMut<[u8]>> Archive<B> {
 
     /// Over a table made earlier (a file, shared memory). Nothing is checked here:
     /// each call checks it, and answers 23 or 24.
+    ///
+    /// ```
+    /// use level_archive::{Answer, Archive, Event, Refusal};
+    ///
+    /// let mut archive = Archive::over(vec![0; 100]);
+    /// assert_eq!(archive.step(&Event::open(0, 0)), Answer::Refused(Refusal::WrongLength));
+    /// ```
     pub fn over(bytes: B) -> Archive<B> {
         Archive { bytes }
     }
 
-    /// One event.
+    /// One event. The whole table is checked first; [`run`](Archive::run) checks it
+    /// once for many.
     pub fn step(&mut self, event: &Event) -> Answer {
         self.step_bytes(&event.to_bytes())
     }
@@ -59,8 +79,16 @@ impl<B: AsRef<[u8]> + AsMut<[u8]>> Archive<B> {
         Answer::of_core(sys::step(self.bytes.as_mut(), event))
     }
 
-    /// Many events: what [`step`](Archive::step) gives one by one, with one check
-    /// of the table.
+    /// Many events: what [`step`](Archive::step) gives one by one.
+    ///
+    /// ```
+    /// use level_archive::{Answer, Archive, Event};
+    ///
+    /// let mut archive = Archive::new(1, 1)?;
+    /// let answers = archive.run(&[Event::open(0, 0), Event::get(0, 9)]);
+    /// assert_eq!(answers, [Answer::Done, Answer::Nothing]);
+    /// # Ok::<(), level_archive::Refusal>(())
+    /// ```
     pub fn run(&mut self, events: &[Event]) -> Vec<Answer> {
         let bytes: Vec<u8> = events.iter().flat_map(Event::to_bytes).collect();
         self.answers_to(&bytes)
@@ -68,6 +96,17 @@ impl<B: AsRef<[u8]> + AsMut<[u8]>> Archive<B> {
 
     /// Many events' bytes, straight to the core: 16 bytes an answer, for as many
     /// events as there is room for; their number is given back.
+    ///
+    /// ```
+    /// use level_archive::{Answer, Archive, Event};
+    ///
+    /// let mut archive = Archive::new(1, 1)?;
+    /// let events = [Event::open(0, 0).to_bytes(), Event::open(0, 0).to_bytes()].concat();
+    /// let mut answers = [0; 32];
+    /// assert_eq!(archive.run_bytes(&events, &mut answers), 2);
+    /// assert_eq!(Answer::from_bytes(&answers[16..]).map(|answer| answer.number()), Some(13));
+    /// # Ok::<(), level_archive::Refusal>(())
+    /// ```
     pub fn run_bytes(&mut self, events: &[u8], answers: &mut [u8]) -> usize {
         sys::run(self.bytes.as_mut(), events, answers)
     }
@@ -94,5 +133,14 @@ impl<B: AsRef<[u8]> + AsMut<[u8]>> Archive<B> {
     /// 4 sites and partitions.
     pub fn view(&self) -> Option<View<'_>> {
         View::of(self.bytes())
+    }
+}
+
+impl<B: AsRef<[u8]>> fmt::Debug for Archive<B> {
+    fn fmt(&self, f: &mut fmt::Formatter<'_>) -> fmt::Result {
+        match View::of(self.bytes.as_ref()) {
+            Some(view) => write!(f, "Archive({view:?})"),
+            None => write!(f, "Archive({} bytes)", self.bytes.as_ref().len()),
+        }
     }
 }

@@ -1,6 +1,4 @@
-//! Events, typed: making them, and their words.
-
-use std::fmt;
+//! Events, typed. `event_bytes` has their bytes, `event_words` their words.
 
 use crate::page_keys::{PageKeys, TooManyKeys};
 use crate::quality::Quality;
@@ -122,6 +120,15 @@ impl Event {
     }
 
     /// BEGIN: a page is opened; 1 to 8 keys.
+    ///
+    /// ```
+    /// use level_archive::{Event, TooManyKeys};
+    ///
+    /// let page = Event::begin(1, 0, &[4, 5, 6])?;
+    /// assert_eq!(page.to_string(), "BEGIN session 1 partition 0 keys 4 5 6");
+    /// assert_eq!(Event::begin(1, 0, &[0; 9]), Err(TooManyKeys));
+    /// # Ok::<(), TooManyKeys>(())
+    /// ```
     pub const fn begin(session: u8, partition: u8, keys: &[u8]) -> Result<Event, TooManyKeys> {
         match PageKeys::new(keys) {
             Some(keys) => Ok(Event::Begin { session, partition, keys }),
@@ -147,66 +154,5 @@ impl Event {
     /// DELIVER: the front message of the channel between two sites arrives.
     pub const fn deliver(from: u8, to: u8, partition: u8) -> Event {
         Event::Deliver { from, site: to, partition }
-    }
-
-    /// Its code, 1 to 10.
-    pub fn code(&self) -> u8 {
-        match self {
-            Event::Open { .. } => 1,
-            Event::Close { .. } => 2,
-            Event::Clock { .. } => 3,
-            Event::Get { .. } => 4,
-            Event::Put { .. } => 5,
-            Event::Begin { .. } => 6,
-            Event::Read { .. } => 7,
-            Event::End { .. } => 8,
-            Event::Beat { .. } => 9,
-            Event::Deliver { .. } => 10,
-        }
-    }
-
-    /// Its name in document 01.
-    pub fn name(&self) -> &'static str {
-        match self {
-            Event::Open { .. } => "OPEN",
-            Event::Close { .. } => "CLOSE",
-            Event::Clock { .. } => "CLOCK",
-            Event::Get { .. } => "GET",
-            Event::Put { .. } => "PUT",
-            Event::Begin { .. } => "BEGIN",
-            Event::Read { .. } => "READ",
-            Event::End { .. } => "END",
-            Event::Beat { .. } => "BEAT",
-            Event::Deliver { .. } => "DELIVER",
-        }
-    }
-}
-
-impl fmt::Display for Event {
-    /// As document 01 writes events; a quality of 0 is left out.
-    fn fmt(&self, f: &mut fmt::Formatter<'_>) -> fmt::Result {
-        f.write_str(self.name())?;
-        match *self {
-            Event::Open { session, site } => write!(f, " session {session} site {site}"),
-            Event::Close { session } | Event::End { session } => write!(f, " session {session}"),
-            Event::Clock { site, partition, time } => write!(f, " {site},{partition} at {time}"),
-            Event::Get { session, key } | Event::Read { session, key } => {
-                write!(f, " session {session} key {key}")
-            }
-            Event::Put { session, key, quality: 0, level } => {
-                write!(f, " session {session} key {key} level {level}")
-            }
-            Event::Put { session, key, quality, level } => {
-                write!(f, " session {session} key {key} quality {quality} level {level}")
-            }
-            Event::Begin { session, partition, keys } => {
-                write!(f, " session {session} partition {partition} keys")?;
-                keys.as_slice().iter().try_for_each(|key| write!(f, " {key}"))
-            }
-            Event::Beat { site, partition } => write!(f, " {site},{partition}"),
-            Event::Deliver { from, site, partition } => {
-                write!(f, " from {from} to {site} partition {partition}")
-            }
-        }
     }
 }

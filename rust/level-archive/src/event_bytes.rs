@@ -8,6 +8,7 @@ use std::fmt;
 use crate::EVENT_BYTES;
 use crate::event::Event;
 use crate::page_keys::PageKeys;
+use crate::part::Part;
 
 /// All fields of an event; those that its code doesn't use are zero.
 #[derive(Default)]
@@ -45,6 +46,25 @@ impl Fields {
         }
     }
 
+    /// As they stand. Only a page has a count and keys.
+    fn in_bytes(bytes: Part) -> Result<Fields, EventError> {
+        let code = bytes.byte(0);
+        let count = if code == 6 { bytes.byte(7) } else { 0 };
+        let keys = bytes.part(20, 8).0.get(..count.into()).and_then(PageKeys::new);
+        Ok(Fields {
+            code,
+            site: bytes.byte(1),
+            partition: bytes.byte(2),
+            session: bytes.byte(3),
+            key: bytes.byte(4),
+            quality: bytes.byte(5),
+            from: bytes.byte(6),
+            time: bytes.number(8),
+            level: bytes.level(16),
+            keys: keys.ok_or(EventError::CountTooLarge(count))?,
+        })
+    }
+
     /// The event of the code, if there is one; what it doesn't use is dropped.
     fn event(self) -> Option<Event> {
         let Fields { code, site, partition, session, key, quality, from, time, level, keys } = self;
@@ -65,21 +85,36 @@ impl Fields {
 }
 
 impl Event {
+    /// Its code, 1 to 10.
+    pub fn code(&self) -> u8 {
+        match self {
+            Event::Open { .. } => 1,
+            Event::Close { .. } => 2,
+            Event::Clock { .. } => 3,
+            Event::Get { .. } => 4,
+            Event::Put { .. } => 5,
+            Event::Begin { .. } => 6,
+            Event::Read { .. } => 7,
+            Event::End { .. } => 8,
+            Event::Beat { .. } => 9,
+            Event::Deliver { .. } => 10,
+        }
+    }
+
     /// Its 32 bytes.
+    ///
+    /// ```
+    /// use level_archive::Event;
+    ///
+    /// let bytes = Event::clock(1, 2, 258).to_bytes();
+    /// assert_eq!(bytes[..11], [3, 1, 2, 0, 0, 0, 0, 0, 2, 1, 0]); // numbers are little-endian
+    /// ```
     pub fn to_bytes(&self) -> [u8; EVENT_BYTES] {
         let Fields { code, site, partition, session, key, quality, from, time, level, keys } =
             Fields::of(self);
         let mut bytes = [0; EVENT_BYTES];
-        bytes[..8].copy_from_slice(&[
-            code,
-            site,
-            partition,
-            session,
-            key,
-            quality,
-            from,
-            keys.count(),
-        ]);
+        let head = [code, site, partition, session, key, quality, from, keys.count()];
+        bytes[..8].copy_from_slice(&head);
         bytes[8..16].copy_from_slice(&time.to_le_bytes());
         bytes[16..20].copy_from_slice(&level.to_le_bytes());
         bytes[20..28].copy_from_slice(&keys.bytes());
@@ -88,45 +123,21 @@ impl Event {
 
     /// The event whose [`to_bytes`](Event::to_bytes) these are. This is for
     /// showing bytes in words: the archive takes any bytes as they are.
+    ///
+    /// ```
+    /// use level_archive::{Event, EventError};
+    ///
+    /// let mut bytes = Event::end(4).to_bytes();
+    /// assert_eq!(Event::from_bytes(&bytes), Ok(Event::end(4)));
+    /// bytes[31] = 1;
+    /// assert_eq!(Event::from_bytes(&bytes), Err(EventError::UnusedNotZero));
+    /// ```
     pub fn from_bytes(bytes: &[u8]) -> Result<Event, EventError> {
-        let bytes = <&[u8; EVENT_BYTES]>::try_from(bytes).map_err(|_| EventError::WrongLength)?;
-        let [code, site, partition, session, key, quality, from, count, ..] = *bytes;
-        let [
-            ..,
-            t0,
-            t1,
-            t2,
-            t3,
-            t4,
-            t5,
-            t6,
-            t7,
-            l0,
-            l1,
-            l2,
-            l3,
-            _,
-            _,
-            _,
-            _,
-            _,
-            _,
-            _,
-            _,
-            _,
-            _,
-            _,
-            _,
-        ] = *bytes;
-        let named = if code == 6 { usize::from(count) } else { 0 };
-        let keys = bytes[20..28]
-            .get(..named)
-            .and_then(PageKeys::new)
-            .ok_or(EventError::CountTooLarge(count))?;
-        let time = u64::from_le_bytes([t0, t1, t2, t3, t4, t5, t6, t7]);
-        let level = i32::from_le_bytes([l0, l1, l2, l3]);
-        let fields =
-            Fields { code, site, partition, session, key, quality, from, time, level, keys };
+        if bytes.len() != EVENT_BYTES {
+            return Err(EventError::WrongLength);
+        }
+        let fields = Fields::in_bytes(Part(bytes))?;
+        let code = fields.code;
         let event = fields.event().ok_or(EventError::UnknownCode(code))?;
         if event.to_bytes() == *bytes { Ok(event) } else { Err(EventError::UnusedNotZero) }
     }

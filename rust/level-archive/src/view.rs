@@ -1,8 +1,11 @@
-//! What a table says, read only: docs/LAYOUT.md in Rust. Any bytes may be looked
-//! at; in a table that isn't well formed, counts beyond the room there is stop at
-//! it.
+//! What a table says, read only: which sessions, nodes and channels there are, and
+//! where they stand in the table. `layout` has what stands in each; both follow
+//! docs/LAYOUT.md.
+
+use std::fmt;
 
 use crate::TABLE_BYTES;
+use crate::part::Part;
 
 /// What a table says, read only.
 ///
@@ -18,7 +21,7 @@ use crate::TABLE_BYTES;
 /// assert!(matches!(waiting[..], [Message::Update(record)] if record.level == 70));
 /// # Ok::<(), level_archive::Refusal>(())
 /// ```
-#[derive(Clone, Copy, Debug)]
+#[derive(Clone, Copy)]
 pub struct View<'a> {
     table: Part<'a>,
 }
@@ -141,77 +144,9 @@ impl<'a> View<'a> {
     }
 }
 
-/// A part of the table; beyond its end all is zero.
-#[derive(Clone, Copy, Debug)]
-struct Part<'a>(&'a [u8]);
-
-impl<'a> Part<'a> {
-    fn part(self, at: usize, length: usize) -> Part<'a> {
-        Part(self.0.get(at..at + length).unwrap_or_default())
-    }
-
-    fn bytes<const N: usize>(self, at: usize) -> [u8; N] {
-        self.part(at, N).0.try_into().unwrap_or([0; N])
-    }
-
-    fn byte(self, at: usize) -> u8 {
-        u8::from_le_bytes(self.bytes(at))
-    }
-
-    fn number(self, at: usize) -> u64 {
-        u64::from_le_bytes(self.bytes(at))
-    }
-
-    fn vector(self, at: usize) -> [u64; 4] {
-        [0, 8, 16, 24].map(|entry| self.number(at + entry))
-    }
-
-    /// A count, and no more than there is room for.
-    fn count(self, at: usize, room: u8) -> usize {
-        usize::from(self.byte(at).min(room))
-    }
-
-    fn session(self) -> SessionView {
-        let page = (self.byte(2) == 1).then(|| self.page());
-        SessionView { open: self.byte(0) == 1, site: self.byte(1), vector: self.vector(32), page }
-    }
-
-    fn page(self) -> PageView {
-        let keys = (0..self.count(3, 8))
-            .map(|place| (self.byte(8 + place), self.byte(16 + place) == 1))
-            .collect();
-        PageView { vector: self.vector(64), keys, gathered: self.vector(96) }
-    }
-
-    fn node(self) -> NodeView {
-        let records =
-            (0..self.count(40, 32)).map(|place| self.part(64 + 56 * place, 48).record()).collect();
-        NodeView { clock: self.number(0), heard: self.vector(8), records }
-    }
-
-    /// A ring of 8.
-    fn channel(self) -> Vec<Message> {
-        let front = usize::from(self.byte(0));
-        (0..self.count(1, 8))
-            .map(|behind| self.part(16 + 56 * ((front + behind) % 8), 48).message())
-            .collect()
-    }
-
-    fn record(self) -> Record {
-        Record {
-            key: self.byte(0),
-            source: self.byte(1),
-            quality: self.byte(2),
-            level: i32::from_le_bytes(self.bytes(4)),
-            stamp: self.number(8),
-            carried: self.vector(16),
-        }
-    }
-
-    fn message(self) -> Message {
-        match self.byte(3) {
-            1 => Message::Update(self.record()),
-            _ => Message::Heartbeat { source: self.byte(1), stamp: self.number(8) },
-        }
+impl fmt::Debug for View<'_> {
+    fn fmt(&self, f: &mut fmt::Formatter<'_>) -> fmt::Result {
+        let (sites, partitions) = (self.sites(), self.partitions());
+        write!(f, "View of {sites} sites, {partitions} partitions")
     }
 }

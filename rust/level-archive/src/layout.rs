@@ -1,0 +1,57 @@
+//! What stands in a session's, a node's and a channel's part of a table, by
+//! docs/LAYOUT.md. Any bytes may be looked at: in a table that isn't well formed, a
+//! count beyond the room there is stops at it.
+
+use crate::part::Part;
+use crate::view::{Message, NodeView, PageView, Record, SessionView};
+
+impl Part<'_> {
+    /// A count, and no more than there is room for.
+    fn count(self, at: usize, room: u8) -> usize {
+        usize::from(self.byte(at).min(room))
+    }
+
+    pub(crate) fn session(self) -> SessionView {
+        let page = (self.byte(2) == 1).then(|| self.page());
+        SessionView { open: self.byte(0) == 1, site: self.byte(1), vector: self.vector(32), page }
+    }
+
+    fn page(self) -> PageView {
+        let keys = (0..self.count(3, 8))
+            .map(|place| (self.byte(8 + place), self.byte(16 + place) == 1))
+            .collect();
+        PageView { vector: self.vector(64), keys, gathered: self.vector(96) }
+    }
+
+    pub(crate) fn node(self) -> NodeView {
+        let records =
+            (0..self.count(40, 32)).map(|place| self.part(64 + 56 * place, 48).record()).collect();
+        NodeView { clock: self.number(0), heard: self.vector(8), records }
+    }
+
+    /// A ring of 8.
+    pub(crate) fn channel(self) -> Vec<Message> {
+        let front = usize::from(self.byte(0));
+        (0..self.count(1, 8))
+            .map(|behind| self.part(16 + 56 * ((front + behind) % 8), 48).message())
+            .collect()
+    }
+
+    fn record(self) -> Record {
+        Record {
+            key: self.byte(0),
+            source: self.byte(1),
+            quality: self.byte(2),
+            level: self.level(4),
+            stamp: self.number(8),
+            carried: self.vector(16),
+        }
+    }
+
+    fn message(self) -> Message {
+        match self.byte(3) {
+            1 => Message::Update(self.record()),
+            _ => Message::Heartbeat { source: self.byte(1), stamp: self.number(8) },
+        }
+    }
+}

@@ -1,0 +1,58 @@
+/* Prints what the header's helpers give, for tests/all/c.rs to compare: the texts, the events, sizes and places, an answer out of bytes. */
+#include <inttypes.h>
+#include <stdio.h>
+
+#include "level_archive.h"
+
+static uint8_t event[LEVEL_ARCHIVE_EVENT_BYTES];
+
+static void print_event(void) {
+    int place;
+    for (place = 0; place < LEVEL_ARCHIVE_EVENT_BYTES; place++) printf("%02x", event[place]);
+    printf("\n");
+    memset(event, 0xa5, sizeof event); /* the next one must write every byte */
+}
+
+static void print_events(void) {
+    static const uint8_t keys[9] = {7, 6, 5, 4, 3, 2, 1, 0, 0};
+    static const uint8_t eight[8] = {1, 2, 3, 4, 5, 6, 7, 8};
+    level_archive_open(event, 15, 3);
+    print_event();
+    level_archive_close(event, 14);
+    print_event();
+    level_archive_clock(event, 2, 1, UINT64_C(0x0102030405060708));
+    print_event();
+    level_archive_get(event, 13, 63);
+    print_event();
+    level_archive_put(event, 12, 62, LEVEL_ARCHIVE_ESTIMATED, LEVEL_ARCHIVE_LOWEST_LEVEL);
+    print_event();
+    level_archive_begin(event, 11, 3, keys, 3);
+    print_event();
+    level_archive_begin(event, 11, 3, eight, 8);
+    print_event();
+    level_archive_read(event, 10, 61);
+    print_event();
+    level_archive_end(event, 9);
+    print_event();
+    level_archive_beat(event, 1, 2);
+    print_event();
+    level_archive_deliver(event, 3, 2, 1);
+    print_event();
+}
+
+static void print_answer(void) {
+    static const uint8_t answers[2 * LEVEL_ARCHIVE_ANSWER_BYTES] = {
+        9, 9, 9, 9, 9, 9, 9, 9, 9, 9, 9, 9, 9, 9, 9, 9, 1, 3, 2, 0, 0xb0, 0x3c, 0xff, 0xff, 0xff, 0xff, 0xff, 0xff, 0xff, 0xff, 0, 0};
+    const level_archive_answer a = level_archive_answer_at(answers, 1);
+    printf("%d %d %d %" PRId32 " %" PRIu64 "\n", a.number, a.source, a.quality, a.level, a.stamp);
+}
+
+int main(void) {
+    int number;
+    for (number = 0; number < 256; number++) printf("%d %s\n", number, level_archive_text((uint8_t)number));
+    print_events();
+    printf("%d %d %d ", (int)sizeof(level_archive_answer), (int)offsetof(level_archive_answer, level), (int)offsetof(level_archive_answer, stamp));
+    printf("%d %d %d\n", LEVEL_ARCHIVE_TABLE_BYTES, LEVEL_ARCHIVE_EVENT_BYTES, LEVEL_ARCHIVE_ANSWER_BYTES);
+    print_answer();
+    return 0;
+}
