@@ -14,23 +14,35 @@ pub fn well_formed(bytes: &[u8]) -> bool {
     lawful && Setting::new(sites, partitions).accepts(table)
 }
 
+/// For each number of partitions from 1, the keys of each: bit k for key k.
+const KEYS_OF: [[u64; PARTITIONS]; PARTITIONS] = [keys_of(1), keys_of(2), keys_of(3), keys_of(4)];
+
+const fn keys_of(partitions: usize) -> [u64; PARTITIONS] {
+    let mut sets = [0; PARTITIONS];
+    let mut key = 0;
+    while key < KEYS {
+        sets[key % partitions] |= 1 << key;
+        key += 1;
+    }
+    sets
+}
+
 /// What the numbers of sites and partitions make lawful.
 struct Setting {
     sites: usize,
     partitions: usize,
     /// The keys of each partition, bit k for key k.
-    keys: [u64; PARTITIONS],
+    keys: &'static [u64; PARTITIONS],
     /// The bits that an entry of each site must not have.
     stray: Vector,
 }
 
 impl Setting {
     fn new(sites: usize, partitions: usize) -> Setting {
-        let keys = |partition| (partition..KEYS).step_by(partitions).fold(0, |set, k| set | 1 << k);
         Setting {
             sites,
             partitions,
-            keys: std::array::from_fn(|at| if at < partitions { keys(at) } else { 0 }),
+            keys: &KEYS_OF[partitions - 1],
             stray: std::array::from_fn(|site| if site < sites { !LAST_TIME } else { !0 }),
         }
     }
