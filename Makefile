@@ -9,7 +9,7 @@ bench:
 
 # Proves the archive and writes target/staticlib/libarchive.a, which C programs and rust/level-archive link.
 library:
-	@rt staticlib archive > /dev/null
+	@rt staticlib archive
 
 # The gate: see scripts/test. Its last line is rt ci's own, 'N passed, 0 failed'.
 test:

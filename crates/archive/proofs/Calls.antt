@@ -13,8 +13,9 @@ use Rattle.table.specs.Put.{fresh}
 use Rattle.lawful.specs.Values.{settingLawful}
 use Rattle.lawful.specs.WellFormed.{wellFormed}
 use Rattle.lawful.proofs.Steps.{Sound}
+use Rattle.reader.specs.Pieces.{pieceOf}
 use Rattle.steps.specs.Step.{Called, gives, refused, stepOn}
-use Rattle.steps.specs.Run.{pieceOf, putAnswer, ran, turned, runBy, pieceCall, turnedAway}
+use Rattle.steps.specs.Run.{putAnswer, ran, turned, runBy, pieceCall, turnedAway}
 use Rattle.steps.proofs.Kept.{piece-keeps}
 use Rattle.archive.specs.Call.{stepCall, setupCall}
 

@@ -38,7 +38,8 @@ use Rattle.event.specs.Fields.{unusedZero}
 use Rattle.steps.proofs.Stepped.{cond-yes, cond-not}
 use Rattle.steps.specs.Step.{Called, gives, refused, stepOn}
 use Rattle.archive.specs.Call.{stepCall, setupCall}
-use Rattle.steps.specs.Run.{pieceOf, turned, runBy}
+use Rattle.reader.specs.Pieces.{pieceOf}
+use Rattle.steps.specs.Run.{turned, runBy}
 use Rattle.archive.specs.Run.{piecesOf, runCall}
 use Rattle.archive.specs.Story.{isEvent, eventsOf, tableAfter, linesOf, countOf}
 use Rattle.archive.specs.Promises.{setUp, Faithful, CausalGet, CausalPage, Conserved, NeverIll, RunIsSteps}

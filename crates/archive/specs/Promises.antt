@@ -19,7 +19,7 @@ use Rattle.table.specs.Parts.{tableLength}
 use Rattle.table.specs.Decode.{decode}
 use Rattle.lawful.specs.Values.{settingLawful}
 use Rattle.event.specs.Event.{eventOf}
-use Rattle.steps.specs.Run.{pieceOf}
+use Rattle.reader.specs.Pieces.{pieceOf}
 use Rattle.archive.specs.Call.{stepCall, setupCall}
 use Rattle.archive.specs.Run.{piecesOf, runCall}
 use Rattle.archive.specs.Story.{isEvent, eventsOf, tableAfter, linesOf, countOf}

@@ -1,69 +1,28 @@
 // The bench of document 01: events from standard input go into an archive of 4 sites and 4 partitions, and a line for each goes to standard output.
-// In order: bytes and numbers of a line, lines, the reading in pieces of 64 KiB. No contract can say what is read or written. Assumes nothing.
+// In order: lines, whose text is in `text`, and the reading in pieces of 64 KiB. No contract can say what is read or written. Assumes nothing.
 ghost use Prim.Native.Nat.{_+_, _*_, _≤_};
 ghost use lib.ListN.{length};
 use libc::STDIN_FILENO;
 use libc::STDOUT_FILENO;
 
-// One more byte of output, where there is room.
-fn put(out: &mut [u8; 65536], at: usize, b: u8) -> usize {
-    if at < out.len() {
-        out[at] = b;
-        at + 1
-    } else {
-        at
-    }
-}
-
-fn put_text(out: &mut [u8; 65536], at: usize, text: &[u8]) -> usize {
-    let mut to = at;
-    let mut i = 0;
-    while i < text.len() {
-        to = put(out, to, text[i]);
-        i += 1;
-    }
-    to
-}
-
-fn put_number(out: &mut [u8; 65536], at: usize, x: u64) -> usize {
-    let mut text = [0u8; 20];
-    let k = io::decimal(x, &mut text);
-    put_text(out, at, &text[..k])
-}
-
-// A space, and a number.
-fn put_next(out: &mut [u8; 65536], at: usize, x: u64) -> usize {
-    let to = put(out, at, b' ');
-    put_number(out, to, x)
-}
-
-// A level without its sign.
-fn size(x: i32) -> u64 {
-    let w = x as i64;
-    if w < 0 { (-w) as u64 } else { w as u64 }
-}
-
-fn put_level(out: &mut [u8; 65536], at: usize, x: i32) -> usize {
-    let mut to = put(out, at, b' ');
-    if x < 0 {
-        to = put(out, to, b'-');
-    }
-    put_number(out, to, size(x))
-}
+mod text;
 
 fn wide(x: u8) -> u64 {
     x as u64
 }
 
-// The answer in the 16 bytes at `from`: number, source, quality, level, stamp.
+// The answer in the 16 bytes at `from`: number, source, quality, level, stamp. Most answers are a number with zeros after it.
 fn put_answer(out: &mut [u8; 65536], at: usize, answers: &[u8; 32768], from: usize) -> usize
     requires { ⌜ from + 16 ≤ 32768 ⌝ }
 {
-    let mut to = put_next(out, at, wide(answers[from]));
-    to = put_next(out, to, wide(answers[from + 1]));
-    to = put_next(out, to, wide(answers[from + 2]));
-    to = put_level(out, to, codec::load_level(answers, from + 4));
-    put_next(out, to, codec::load_u64(answers, from + 8))
+    let mut to = text::put_next(out, at, wide(answers[from]));
+    if (codec::load_u64(answers, from) < 256) & (codec::load_u64(answers, from + 8) == 0) {
+        return text::put_word(out, to, b" 0 0 0 0");
+    }
+    to = text::put_next(out, to, wide(answers[from + 1]));
+    to = text::put_next(out, to, wide(answers[from + 2]));
+    to = text::put_level(out, to, codec::load_level(answers, from + 4));
+    text::put_next(out, to, codec::load_u64(answers, from + 8))
 }
 
 fn put_line(
@@ -76,10 +35,10 @@ fn put_line(
 ) -> usize
     requires { ⌜ from + 16 ≤ 32768 ⌝ }
 {
-    let mut to = put_number(out, at, place);
-    to = put_next(out, to, wide(code));
+    let mut to = text::put_number(out, at, place);
+    to = text::put_next(out, to, wide(code));
     to = put_answer(out, to, answers, from);
-    put(out, to, b'\n')
+    text::put(out, to, b'\n')
 }
 
 fn flush(out: &[u8], at: usize) {
@@ -108,18 +67,19 @@ fn lines(events: &[u8], answers: &[u8; 32768], n: usize, place: u64, out: &mut [
     while i < n {
         p += 1;
         to = room(out, to);
-        to = put_line(out, to, p, events[32 * i], answers, 16 * i);
+        let e = reader::event_of(events, i);
+        to = put_line(out, to, p, e[0], answers, 16 * i);
         i += 1;
     }
     flush(out, to);
 }
 
 // The last line, where bytes are left over.
-fn cut(n: usize, out: &mut [u8; 65536]) {
-    if 0 < n {
-        let mut to = put_text(out, 0, b"cut");
-        to = put_next(out, to, n as u64);
-        to = put(out, to, b'\n');
+fn cut(left: &[u8], out: &mut [u8; 65536]) {
+    if 0 < left.len() {
+        let mut to = text::put_word(out, 0, b"cut");
+        to = text::put_next(out, to, left.len() as u64);
+        to = text::put(out, to, b'\n');
         flush(out, to);
     }
 }
@@ -129,11 +89,12 @@ fn run(buf: &mut [u8], table: &mut [u8; 57344], answers: &mut [u8; 32768], out: 
     let mut place: u64 = 0;
     while place <= 18446744073709549567 {
         let n = io::read_full(STDIN_FILENO, buf);
+        let events = &buf[0..n];
         let whole = n - n % 32;
-        let k = archive::run(table, &buf[0..whole], answers);
-        lines(buf, answers, k, place, out);
+        let k = archive::run(table, &events[0..whole], answers);
+        lines(events, answers, k, place, out);
         if n < buf.len() {
-            cut(n % 32, out);
+            cut(reader::event_of(events, n / 32), out);
             return;
         }
         place += 2048;

@@ -1,20 +1,15 @@
--- What PUT is answered, in the words of the bytes. In order: the site of an open session, when the clock is greater than two stamps, a vector with
--- one entry changed, and the answers by what the session says. Assumes nothing.
+-- What PUT is answered, in the words of the bytes. In order: the site of an open session, when the clock is greater than two stamps, and the
+-- answers by what the session says. Assumes nothing.
 use Prim.Native.Nat.{ℕ, max, _≤_, _<_}
 use native.Mathlib.Omega.{arith}
-use native.Mathlib.Decide.{decLt}
-use mathlib.Core.Path.{_≡_, sym, subst, fun-ext, _∙_}
+use mathlib.Core.Path.{_≡_, sym, subst, _∙_}
 use mathlib.Core.Bool.{Bool, true, false, cond, not, _&&_, _||_}
 use mathlib.Core.List.{List, [], _∷_}
 use lib.Dec.{T, ltb, lt→ltb}
 use lib.IntN.{ℤ}
-use lib.ListN.{length, List·getD-eq-default}
-use borrow.Author.Tests.{ne-eqb}
 use mir.Facts.{and-yes, yes-and, ltb-yes}
 use Rattle.codec.specs.Le.{load}
-use Rattle.vector.specs.Vec.{Vec, width, withEntry}
-use Rattle.vector.specs.Entries.{entry, entries}
-use Rattle.vector.proofs.Entries.{length-entries, entry-entries}
+use Rattle.vector.specs.Vec.{withEntry}
 use Rattle.protocol.specs.Record.{partOf, Update}
 use Rattle.protocol.specs.State.{Session, opened}
 use Rattle.protocol.specs.Event.{PUT}
@@ -49,20 +44,6 @@ after-both a b c =
     same-test (ltb a c && ltb b c) (ltb (max a b) c)
     (λ y. let k = and-yes (ltb a c) (ltb b c) y in let g : a < c = ltb-yes (k .0) in let h : b < c = ltb-yes (k .1) in lt→ltb (max a b) c (omega arith))
     (λ y. let g : max a b < c = ltb-yes y in yes-and (ltb a c) (ltb b c) (lt→ltb a c (omega arith)) (lt→ltb b c (omega arith)))
-
--- a vector of four entries with one of them changed is its entries
-pub entry-with : (e : List ℕ) (m t : ℕ) → length e ≡ width → m < width → entry (entries (withEntry (entry e) m t)) ≡ withEntry (entry e) m t
-unfolding entry withEntry
-entry-with e m t l h = fun-ext (λ i. go i (decLt i width))
-  where
-    v : Vec
-    v = withEntry (entry e) m t
-
-    go : (i : ℕ) → Dec (i < width) → entry (entries v) i ≡ v i
-    go i (yes b) = entry-entries v i b
-    go i (no b) =
-        let other : i ≡ m → ⊥ = λ q. omega arith in
-        rw (ne-eqb i m other) (List·getD-eq-default (entries v) 0 (omega (arith, length-entries v)) ∙ sym (List·getD-eq-default e 0 (omega arith)))
 
 -- session s says x, and p is the key's partition
 module _ (t : List ℕ) (s k q : ℕ) (l : ℤ) (x : Session) (e : x ≡ sessionIn (sessionOf t s)) (p : ℕ) (e′ : p ≡ partOf (settingIn t) k) where

@@ -1,4 +1,4 @@
-// Sessions as decisions leave them, by value. In order: closed and opened, a vector that is raised, and a page that is begun, read on and ended.
+// Sessions as decisions leave them, by value. In order: closed and opened, another vector, and a page that is begun, read on and ended.
 // Assumes nothing.
 ghost use mathlib.Core.Path.{_≡_};
 ghost use mathlib.Core.Bool.{true};
@@ -76,11 +76,12 @@ pub fn read_on(x: Session, marks: [bool; 8], gathered: Vector) -> Session
     y
 }
 
-// With no page, and another vector.
-pub fn ended(x: Session, vec: Vector) -> Session
-    ensures { λ r. ⌜ asSession r ≡ opened (x .site) (entry (vec .e)) noPage ⌝ }
+// With no page.
+pub fn ended(x: Session) -> Session
+    ensures { λ r. ⌜ asSession r ≡ opened (x .site) (entry (x .vec .e)) noPage ⌝ }
 {
     let mut y = opened(x.site);
+    let vec = x.vec;
     y.vec = vec;
     y
 }

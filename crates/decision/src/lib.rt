@@ -1,5 +1,5 @@
 // Decisions: what an event is answered, and what it then changes. They read the table and write nothing. Here are the values. The files, from what is
-// read to what is decided: search, lookup, marks, keeping, answers, and the decisions of sessions, pages and writes. Assumes nothing.
+// read to what is decided: search, lookup, marks, keeping, answers, raising, and the decisions of sessions, pages and writes. Assumes nothing.
 use protocol::Answer;
 use table::Message;
 use table::Reading;
@@ -11,6 +11,7 @@ pub mod keeping;
 pub mod lookup;
 pub mod marks;
 pub mod pages;
+pub mod raising;
 pub mod search;
 pub mod sessions;
 pub mod writes;

@@ -17,6 +17,7 @@ ghost use Rattle.decision.specs.Search.{fitsRead};
 ghost use Rattle.decision.specs.Found.{foundOf};
 use crate::Found;
 use crate::search;
+use protocol::limits;
 use table::Session;
 use table::nodes;
 use table::sessions;
@@ -36,7 +37,7 @@ pub fn partition(t: &[u8], k: u8) -> u8
     requires { ⌜ (length (now t) ≡ 57344) × T (wellFormed (now t)) ⌝ }
     ensures { λ r. ⌜ (r ≡ partOf (settingIn (now (t .entry))) k) × (r < 4) ⌝ }
 {
-    k % codec::load_u8(t, 1)
+    limits::partition_of(k, codec::load_u8(t, 1))
 }
 
 // What the node of site m and partition p has heard.

@@ -14,6 +14,7 @@ use crate::answers;
 use crate::keeping;
 use crate::lookup;
 use crate::marks;
+use crate::raising;
 use protocol::Answer;
 
 // BEGIN of a page of the first `count` keys, with the node of partition p as its coordinator.
@@ -67,7 +68,7 @@ pub fn read(t: &[u8], s: u8, k: u8) -> Decided
     answers::kept(answers::shown(found), s, keeping::read_on(x, read, raised))
 }
 
-// END of the page: its session takes what the page gathered.
+// END of the page: "raises the session's vector, as for GET", by what the page gathered, which has no stamp of its own.
 pub fn end(t: &[u8], s: u8) -> Decided
     requires { ⌜ (length (now t) ≡ 57344) × T (wellFormed (now t)) × (s < 16) ⌝ }
     ensures { λ r. ⌜ outcomeOf r ≡ answered (decode (now (t .entry))) (END s) ⌝ }
@@ -83,11 +84,7 @@ pub fn end(t: &[u8], s: u8) -> Decided
     if !marks::all_read(marks, x.count as usize) {
         return answers::refused(18);
     }
-    let vec = x.vec;
     let gathered = x.gathered;
-    answers::kept(
-        Answer::Done,
-        s,
-        keeping::ended(x, answers::larger(vec, gathered)),
-    )
+    let raised = raising::lent(x, gathered, x.site, 0);
+    answers::kept(Answer::Done, s, keeping::ended(raised))
 }

@@ -12,6 +12,7 @@ use crate::Decided;
 use crate::answers;
 use crate::keeping;
 use crate::lookup;
+use crate::raising;
 use protocol::Answer;
 use vector::Vector;
 
@@ -58,6 +59,5 @@ pub fn get(t: &[u8], s: u8, k: u8) -> Decided
         return answers::refused(3);
     }
     let found = lookup::newest(t, m, p, k, false, Vector::ZERO);
-    let raised = answers::raised_by(vec, found);
-    answers::kept(answers::shown(found), s, keeping::with_vector(x, raised))
+    answers::kept(answers::shown(found), s, raising::raised_by(x, found))
 }

@@ -1,22 +1,22 @@
--- The page keys. In order: lawful keys as a test of every number below the count; of eight numbers the test of those below the count; and an
--- event's keys as the code tests them. Assumes nothing.
-use mathlib.Core.Path.{_≡_, refl, sym, _∙_}
-use mathlib.Core.Bool.{Bool, _&&_, _||_}
-use mathlib.Core.Logic.{⊎-elim}
+-- The page keys. In order: lawful keys as a test of every number below the count; an event's keys as the code tests them; keys that are all
+-- zero. Assumes nothing.
+use mathlib.Core.Path.{_≡_, refl, sym, subst, _∙_}
+use mathlib.Core.Bool.{true, _&&_, _||_}
 use mathlib.Core.List.{List}
-use Prim.Native.Nat.{ℕ, zero, suc, _+_, _<_, _≤_}
-use native.Mathlib.Decide.{decLt}
+use Prim.Native.Nat.{ℕ, zero, suc, _+_, _<_, _≤_, min}
+use native.Mathlib.Nat.{add-zero}
 use native.Mathlib.Omega.{arith}
-use lib.Dec.{T, leb, ltb, le→leb}
+use lib.Dec.{leb, ltb, eqb}
 use lib.ListN.{length}
-use mir.Facts.{or-yes, leb-yes}
+use mir.Facts.{leb-yes}
 use Rattle.codec.specs.Le.{load}
 use Rattle.vector.specs.Vec.{allBelow}
-use Rattle.vector.proofs.Vec.{all-below-at, all-below}
+use Rattle.vector.proofs.Vec.{all-below}
 use Rattle.vector.proofs.Entries.{allBelow-ext}
-use Rattle.vector.proofs.Tests.{yes-or-l, yes-or-r}
+use Rattle.vector.proofs.Tests.{yes-or-r, yes-eqb}
 use Rattle.protocol.specs.Needs.{keysLawful}
 use Rattle.table.specs.Tabulate.{tabulate}
+use Rattle.event.specs.Fields.{restZero}
 use Rattle.event.specs.Event.{keysOf}
 use Rattle.event.specs.Ranges.{keysBelow}
 use Rattle.event.proofs.Tests.{same-tests, and-behind, allBelow-front}
@@ -26,20 +26,6 @@ keysLawful-tabulate : (n : ℕ) (f : ℕ → ℕ) → keysLawful (tabulate n f) 
 unfolding keysLawful tabulate
 keysLawful-tabulate zero f = unfold allBelow in refl
 keysLawful-tabulate (suc n) f = rw (keysLawful-tabulate n (λ i. f (suc i))) (sym (allBelow-front n (λ i. ltb (f i) 64)))
-
--- of n numbers the test passes at those below the count
-below-count : (n count : ℕ) (f : ℕ → Bool) → count ≤ n → allBelow n (λ i. leb count i || f i) ≡ allBelow count f
-below-count n count f h =
-    same-tests (allBelow n (λ i. leb count i || f i)) (allBelow count f)
-    (λ t. all-below count f (λ i l. kept i l (all-below-at n (λ i. leb count i || f i) t i (omega arith))))
-    (λ t. all-below n (λ i. leb count i || f i) (λ i l. back t i (decLt i count)))
-  where
-    kept : (i : ℕ) → i < count → T (leb count i || f i) → T (f i)
-    kept i l t = ⊎-elim (λ u. let k : count ≤ i = leb-yes u in absurd (omega arith)) (λ u. u) (or-yes (leb count i) (f i) t)
-
-    back : T (allBelow count f) → (i : ℕ) → Dec (i < count) → T (leb count i || f i)
-    back t i (yes l) = yes-or-r (leb count i) (f i) (all-below-at count f t i l)
-    back t i (no l) = yes-or-l (leb count i) (f i) (le→leb count i (omega arith))
 
 -- ---- an event's keys
 
@@ -52,9 +38,27 @@ unfolding keysBelow keysOf
 keysBelow-lawful e h =
     let n = load 1 e 7 in
     let f : ℕ → ℕ = λ i. load 1 e (20 + i) in
-    allBelow-ext 8 _ _ (λ i b. rw (tab-at 8 f 0 i b)) ∙ below-count 8 n (λ i. ltb (f i) 64) h ∙ sym (keysLawful-tabulate n f)
+    let m : min 8 n ≡ n = omega arith in
+    rw m (allBelow-ext n _ _ (λ i b. rw (tab-at 8 f 0 i (omega arith))) ∙ sym (keysLawful-tabulate n f))
 
 -- a count beyond 8 is out of range, whatever the keys are
 pub count-keys : (e : List ℕ)
     → (leb (load 1 e 7) 8 && keysBelow (tabulate 8 (λ i. load 1 e (20 + i))) (load 1 e 7)) ≡ (leb (load 1 e 7) 8 && keysLawful (keysOf e))
 count-keys e = and-behind (leb (load 1 e 7) 8) _ _ (λ t. keysBelow-lawful e (leb-yes t))
+
+-- ---- no keys at all
+
+-- eight bytes that are the number 0 are all zero
+load-zero : (n : ℕ) (e : List ℕ) (at : ℕ) → load n e at ≡ 0 → (i : ℕ) → i < n → load 1 e (at + i) ≡ 0
+unfolding load
+load-zero (suc n) e at h zero l = rw (add-zero at) (omega arith)
+load-zero (suc n) e at h (suc i) l =
+    let z : load 1 e (suc at + i) ≡ 0 = load-zero n e (suc at) (omega arith) i (omega arith) in
+    let q : suc at + i ≡ at + suc i = omega arith in
+    subst (λ j. load 1 e j ≡ 0) q z
+
+pub rest-none : (e : List ℕ) → load 8 e 20 ≡ 0 → restZero e ≡ true
+unfolding restZero
+rest-none e h =
+    same-tests (restZero e) true (λ t. tt)
+    (λ t. all-below 8 (λ i. ltb i (load 1 e 7) || eqb (load 1 e (20 + i)) 0) (λ i b. yes-or-r (ltb i (load 1 e 7)) _ (yes-eqb (load 1 e (20 + i)) 0 (load-zero 8 e 20 h i b))))

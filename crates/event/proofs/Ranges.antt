@@ -13,18 +13,19 @@ use Rattle.vector.specs.Vec.{allBelow}
 use Rattle.vector.proofs.Entries.{allBelow-ext}
 use Rattle.protocol.specs.Record.{Setting}
 use Rattle.protocol.specs.Needs.{ranges}
+use Rattle.table.proofs.Tabulate.{tab-at}
 use Rattle.event.specs.Fields.{uses, zeroAt, startOf, sizeOf, restZero, unusedZero}
 use Rattle.event.specs.Event.{codeLawful, timeOf, levelIn, eventOf, met}
 use Rattle.event.specs.Values.{fieldsIn}
-use Rattle.event.specs.Ranges.{inRange, fieldLawful, fieldsLawful}
-use Rattle.event.proofs.Tests.{first, none, choice, and-turn, allBelow-and}
+use Rattle.event.specs.Ranges.{inRange, usedBy, zeroIn, fieldLawful, fieldsLawful}
+use Rattle.event.proofs.Tests.{first, none, and-turn, allBelow-and}
 use Rattle.event.proofs.Keys.{length-keysOf, count-keys}
 
 -- the field f of the code n + 1 is zero unless it is used, and in its range if it is
-abbrev zeroUnused : List ℕ → (n f : ℕ) → Bool
+abbrev pub zeroUnused : List ℕ → (n f : ℕ) → Bool
 zeroUnused e n f = uses n f || zeroAt e (startOf f) (sizeOf f)
 
-abbrev usedInRange : Setting → List ℕ → (n f : ℕ) → Bool
+abbrev pub usedInRange : Setting → List ℕ → (n f : ℕ) → Bool
 usedInRange c e n f = not (uses n f) || getD (inRange c (fieldsIn e)) f false
 
 -- ---- what each code asks of the fields that it uses, from OPEN to DELIVER
@@ -54,11 +55,13 @@ code-row e h =
     (low, omega arith)
 
 module _ (c : Setting) (e : List ℕ) where
-  fields-split : (n : ℕ) → allBelow 10 (fieldLawful e (inRange c (fieldsIn e)) n) ≡ (allBelow 10 (zeroUnused e n) && allBelow 10 (usedInRange c e n))
-  unfolding fieldLawful
-  fields-split n =
-      allBelow-ext 10 _ (λ f. zeroUnused e n f && usedInRange c e n f) (λ f b. choice (uses n f) _ _)
-      ∙ allBelow-and 10 (zeroUnused e n) (usedInRange c e n)
+  -- the test of a field, by its rules
+  pub field-lawful : (n f : ℕ) → f < 10 → fieldLawful (usedBy n) (zeroIn e) (inRange c (fieldsIn e)) f ≡ (zeroUnused e n f && usedInRange c e n f)
+  unfolding fieldLawful usedBy zeroIn
+  field-lawful n f b = rw (tab-at 10 (uses n) false f b, tab-at 10 (λ f. zeroAt e (startOf f) (sizeOf f)) false f b)
+
+  fields-split : (n : ℕ) → allBelow 10 (fieldLawful (usedBy n) (zeroIn e) (inRange c (fieldsIn e))) ≡ (allBelow 10 (zeroUnused e n) && allBelow 10 (usedInRange c e n))
+  fields-split n = allBelow-ext 10 _ _ (field-lawful n) ∙ allBelow-and 10 (zeroUnused e n) (usedInRange c e n)
 
   pub fields-lawful : codeLawful e ≡ true → fieldsLawful c e ≡ (unusedZero e && met (ranges c (eventOf e)))
   unfolding fieldsLawful unusedZero

@@ -1,7 +1,6 @@
--- A list of numbers that is a function's first values, and a table of rows of flags that is its rule. Assumes nothing.
+-- A list of numbers that is a function's first values. Assumes nothing.
 use mathlib.Core.Path.{_≡_, sym, _∙_}
-use mathlib.Core.Bool.{Bool, false}
-use mathlib.Core.List.{List, []}
+use mathlib.Core.List.{List}
 use Prim.Native.Nat.{ℕ, _<_}
 use native.Mathlib.Omega.{arith}
 use lib.ListN.{length, getD}
@@ -16,7 +15,3 @@ pub tabulate-is : (n : ℕ) (f : ℕ → ℕ) (l : List ℕ) → length l ≡ n 
 unfolding entry
 tabulate-is n f l q h =
     ext-getD 0 l (tabulate n f) (q ∙ sym (tab-length n f)) (λ i b. h i (omega arith) ∙ sym (tab-at n f 0 i (omega arith)))
-
--- a table of m rows of n flags that is its rule, tabulated, which antt computes, has at each place what the rule says
-pub flag-rule : (m n : ℕ) (rule : ℕ → ℕ → Bool) (i j : ℕ) → i < m → j < n → getD (getD (tabulate m (λ i. tabulate n (rule i))) i []) j false ≡ rule i j
-flag-rule m n rule i j h k = rw (tab-at m (λ i. tabulate n (rule i)) [] i h, tab-at n (rule i) false j k)

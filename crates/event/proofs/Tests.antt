@@ -1,7 +1,7 @@
--- Tests that are joined. In order: when two tests are one, a choice as two tests, tests joined in another order; a test of every number below n,
+-- Tests that are joined. In order: when two tests are one, two tests of which one decides, tests joined in another order; a test of every number below n,
 -- joined and from the front; a claim of every number below n, one after the other. Assumes nothing.
 use mathlib.Core.Path.{_≡_, refl, sym, ap, _∙_}
-use mathlib.Core.Bool.{Bool, true, false, cond, not, _&&_, _||_, and-true, and-assoc, and-comm}
+use mathlib.Core.Bool.{Bool, true, false, not, _&&_, _||_, and-true, and-assoc, and-comm}
 use Prim.Native.Nat.{ℕ, zero, suc, _<_}
 use native.Mathlib.Omega.{arith}
 use lib.Dec.{T}
@@ -21,21 +21,14 @@ pub and-behind : (a b c : Bool) → (T a → b ≡ c) → (a && b) ≡ (a && c)
 and-behind true b c h = h tt
 and-behind false b c h = refl
 
--- a where u, z elsewhere: z must hold unless u, and a if u
-pub choice : (u a z : Bool) → cond u a z ≡ ((u || z) && (not u || a))
-choice true a z = refl
-choice false a true = refl
-choice false a false = refl
+-- z must hold unless u, and a if u: one of the two holds
+pub either-yes {ℓ} : {R : Type ℓ} (u z a : Bool) → T ((u || z) && (not u || a)) → (T a → R) → (T z → R) → R
+either-yes true z a t f g = f t
+either-yes false true a t f g = g tt
 
--- a choice that passes, by what passes
-pub choice-yes {ℓ} : {R : Type ℓ} (u a z : Bool) → T (cond u a z) → (T a → R) → (T z → R) → R
-choice-yes true a z t f g = f t
-choice-yes false a z t f g = g t
-
--- a choice that passes where its test does
-pub choice-first : (u a z : Bool) → T u → T (cond u a z) → T a
-choice-first true a z h t = t
-choice-first false a z h t = absurd h
+-- and where u does, a
+pub used-yes : (u z a : Bool) → T u → T ((u || z) && (not u || a)) → T a
+used-yes true z a h t = t
 
 pub and-swap : (a b c d : Bool) → (a && b && (c && d)) ≡ (a && c && (b && d))
 and-swap true true c d = refl

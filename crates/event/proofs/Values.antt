@@ -1,6 +1,6 @@
 -- The values that the code loads say the event of the bytes, where these are lawful. In order: a field of a lawful event, the event, and what a
 -- dispatcher knows that matches on the code. The key rules are `event-is` and `used-in-range`. Assumes nothing.
-use mathlib.Core.Path.{_≡_, sym, ap, _∙_}
+use mathlib.Core.Path.{_≡_, sym, ap, subst, _∙_}
 use mathlib.Core.Bool.{Bool, true, false, _&&_}
 use mathlib.Core.List.{List}
 use Prim.Native.Nat.{ℕ, _+_, _-_, _≤_, _<_}
@@ -17,10 +17,10 @@ use Rattle.event.specs.declared.Fields.{Fields}
 use Rattle.event.specs.Fields.{uses, zeroAt, restZero, unusedZero}
 use Rattle.event.specs.Event.{codeLawful, keysOf, eventOf, met}
 use Rattle.event.specs.Values.{fieldsIn, keysFrom, eventFor, eventFrom}
-use Rattle.event.specs.Ranges.{inRange, fieldLawful, fieldsLawful}
-use Rattle.event.proofs.Tests.{choice-yes, choice-first}
+use Rattle.event.specs.Ranges.{inRange, usedBy, zeroIn, fieldLawful, fieldsLawful}
+use Rattle.event.proofs.Tests.{either-yes, used-yes}
 use Rattle.table.proofs.Tabulate.{tab-at, tab-ext}
-use Rattle.event.proofs.Ranges.{fields-lawful}
+use Rattle.event.proofs.Ranges.{zeroUnused, usedInRange, field-lawful, fields-lawful}
 
 module _ (c : Setting) (e : List ℕ) where
   -- neither 10 nor 11
@@ -29,20 +29,21 @@ module _ (c : Setting) (e : List ℕ) where
 
   -- ---- a field of a lawful event
 
-  each-lawful : Lawful → (f : ℕ) → f < 10 → T (fieldLawful e (inRange c (fieldsIn e)) (load 1 e 0 - 1) f)
+  each-lawful : Lawful → (f : ℕ) → f < 10 → T (zeroUnused e (load 1 e 0 - 1) f && usedInRange c e (load 1 e 0 - 1) f)
   unfolding fieldsLawful
   each-lawful l f h =
-      let each : ℕ → Bool = fieldLawful e (inRange c (fieldsIn e)) (load 1 e 0 - 1) in
+      let n = load 1 e 0 - 1 in
+      let each : ℕ → Bool = fieldLawful (usedBy n) (zeroIn e) (inRange c (fieldsIn e)) in
       let t : T (fieldsLawful c e) = rw (fields-lawful c e (l .0), l .1) tt in
-      all-below-at 10 each (and-yes (allBelow 10 each) (restZero e && zeroAt e 28 4) t .0) f h
+      subst T (field-lawful c e n f h) (all-below-at 10 each (and-yes (allBelow 10 each) (restZero e && zeroAt e 28 4) t .0) f h)
 
   -- the count is at most 8, used or not
   count-low : Lawful → load 1 e 7 ≤ 8
-  unfolding fieldLawful inRange fieldsIn zeroAt load
+  unfolding inRange fieldsIn zeroAt
   count-low l =
-      choice-yes (uses (load 1 e 0 - 1) 6) _ _ (each-lawful l 6 (omega arith))
+      either-yes (uses (load 1 e 0 - 1) 6) _ _ (each-lawful l 6 (omega arith))
       (λ u. leb-yes (and-yes (ltb 0 (load 1 e 7)) (leb (load 1 e 7) 8) u .1))
-      (λ u. let z : getD e 7 0 ≡ 0 = eqb-yes (all-below-at 1 (λ i. eqb (getD e (7 + i) 0) 0) u 0 (omega arith)) in omega arith)
+      (λ u. let z : load 1 e 7 ≡ 0 = eqb-yes u in omega arith)
 
 -- ---- the event
 
@@ -68,5 +69,4 @@ module _ (c : Setting) (e : List ℕ) (x : Fields) (q : x ≡ fieldsIn e) (l : L
 
   -- a used field is in its range; at numerals it computes: where n is 1 and f is `site`, T (ltb (x .site) (c .sites))
   pub used-in-range : (f : ℕ) → f < 10 → T (uses (n - 1) f) → T (getD (inRange c x) f false)
-  unfolding fieldLawful
-  used-in-range f b u = rw q (choice-first (uses (n - 1) f) _ _ u (rw code-is at (each-lawful c e l f b)))
+  used-in-range f b u = rw q (used-yes (uses (n - 1) f) _ _ u (rw code-is at (each-lawful c e l f b)))

@@ -75,7 +75,7 @@ uses row f = has (getD fieldsNamed row []) f
 
 -- the n bytes from `at` are zero
 unfoldable pub zeroAt : List ℕ → (at n : ℕ) → Bool
-zeroAt e at n = allBelow n (λ i. eqb (getD e (at + i) 0) 0)
+zeroAt e at n = eqb (load n e at) 0
 
 -- "Page keys beyond the count are zero"
 unfoldable pub restZero : List ℕ → Bool

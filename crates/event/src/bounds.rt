@@ -1,25 +1,26 @@
-// The range of each field, whether its code uses it or not: refusal 11's numbers. In order: a level, page keys, all ten fields. It touches nothing.
+// The range of each field, whether its code uses it or not: refusal 11's numbers. In order: page keys, all ten fields. It touches nothing.
 ghost use mathlib.Core.Path.{_≡_};
-ghost use Rattle.protocol.specs.Needs.{levelLawful};
+ghost use Prim.Native.Nat.{_≤_, min};
 ghost use Rattle.event.specs.Ranges.{keysBelow, inRange};
 use crate::Fields;
+use protocol::limits;
 
-// "level: −50,000 to 1,000,000 mm from datum"
-pub fn level_lawful(x: i32) -> bool
-    ensures { λ r. ⌜ r ≡ levelLawful x ⌝ }
+// How many of the eight page keys the count names.
+fn named(count: u8) -> usize
+    ensures { λ r. ⌜ (r ≡ min 8 count) × (r ≤ 8) ⌝ }
 {
-    (-50000 <= x) & (x <= 1000000)
+    if count < 8 { count as usize } else { 8 }
 }
 
-// The keys below the count are 0 to 63.
+// The keys below the count, of the eight that there are, are 0 to 63.
 pub fn keys_lawful(keys: [u8; 8], count: u8) -> bool
     ensures { λ r. ⌜ r ≡ keysBelow keys count ⌝ }
 {
-    let n = count as usize;
+    let n = named(count);
     let mut all = true;
     let mut i = 0;
-    while i < 8 {
-        all = all & ((n <= i) | (keys[i] < 64));
+    while i < n {
+        all = all & (keys[i] < 64);
         i += 1;
     }
     all
@@ -39,7 +40,7 @@ pub fn in_range(x: Fields, sites: u8, parts: u8) -> [bool; 10]
         (x.from < sites) & (x.from != x.site),
         (0 < x.count) & (x.count <= 8),
         x.time < 281474976710656,
-        level_lawful(x.level),
+        limits::level_lawful(x.level),
         keys_lawful(keys, x.count),
     ]
 }

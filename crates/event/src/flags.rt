@@ -1,9 +1,10 @@
-// "Each code uses only the fields named for it in the table; all others must be zero." In order: the table of flags, where each field stands, and
-// the tests for zero. It reads the event alone.
+// "Each code uses only the fields named for it in the table; all others must be zero." In order: the table of flags, and the tests
+// for zero. It reads the event alone.
 ghost use mathlib.Core.Path.{_≡_};
-ghost use Prim.Native.Nat.{_+_, _<_, _≤_};
+ghost use Prim.Native.Nat.{_<_};
 ghost use lib.ListN.{length};
-ghost use Rattle.event.specs.Fields.{uses, startOf, sizeOf, zeroAt, restZero};
+ghost use Rattle.event.specs.Fields.{restZero};
+ghost use Rattle.event.specs.Ranges.{usedBy, zeroIn};
 
 const YES: bool = true;
 
@@ -23,45 +24,41 @@ const USES: [[bool; 10]; 10] = [
     [YES, YES, NO, NO, NO, YES, NO, NO, NO, NO], // DELIVER
 ];
 
-// Where each field starts, and how many bytes it has.
-const START: [usize; 10] = [1, 2, 3, 4, 5, 6, 7, 8, 16, 20];
-
-const SIZE: [usize; 10] = [1, 1, 1, 1, 1, 1, 1, 8, 4, 8];
-
-// The code row + 1 uses the field f.
-pub fn used(row: usize, f: usize) -> bool
-    requires { ⌜ (row < 10) × (f < 10) ⌝ }
-    ensures { λ r. ⌜ r ≡ uses row f ⌝ }
+// Of each field, whether the code row + 1 uses it. The whole row, so that the table is looked into once for an event.
+pub fn used(row: usize) -> [bool; 10]
+    requires { ⌜ row < 10 ⌝ }
+    ensures { λ r. ⌜ r ≡ usedBy row ⌝ }
 {
-    USES[row][f]
+    USES[row]
 }
 
-// The n bytes from `at` are zero.
-pub fn zeros(e: &[u8], at: usize, n: usize) -> bool
-    requires { ⌜ at + n ≤ length (now e) ⌝ }
-    ensures { λ r. ⌜ r ≡ zeroAt (now (e .entry)) at n ⌝ }
+// Of each field, whether its bytes are zero.
+pub fn zero(e: &[u8]) -> [bool; 10]
+    requires { ⌜ length (now e) ≡ 32 ⌝ }
+    ensures { λ r. ⌜ r ≡ zeroIn (now (e .entry)) ⌝ }
 {
-    let mut all = true;
-    let mut i = 0;
-    while i < n {
-        all = all & (e[at + i] == 0);
-        i += 1;
-    }
-    all
+    [
+        codec::load_u8(e, 1) == 0,
+        codec::load_u8(e, 2) == 0,
+        codec::load_u8(e, 3) == 0,
+        codec::load_u8(e, 4) == 0,
+        codec::load_u8(e, 5) == 0,
+        codec::load_u8(e, 6) == 0,
+        codec::load_u8(e, 7) == 0,
+        codec::load_u64(e, 8) == 0,
+        codec::load_u32(e, 16) == 0,
+        codec::load_u64(e, 20) == 0,
+    ]
 }
 
-pub fn field_zero(e: &[u8], f: usize) -> bool
-    requires { ⌜ (length (now e) ≡ 32) × (f < 10) ⌝ }
-    ensures { λ r. ⌜ r ≡ zeroAt (now (e .entry)) (startOf f) (sizeOf f) ⌝ }
-{
-    zeros(e, START[f], SIZE[f])
-}
-
-// "Page keys beyond the count are zero."
+// "Page keys beyond the count are zero." Most events have no page keys at all.
 pub fn rest_zero(e: &[u8]) -> bool
     requires { ⌜ length (now e) ≡ 32 ⌝ }
     ensures { λ r. ⌜ r ≡ restZero (now (e .entry)) ⌝ }
 {
+    if codec::load_u64(e, 20) == 0 {
+        return true;
+    }
     let count = codec::load_u8(e, 7) as usize;
     let mut all = true;
     let mut i = 0;

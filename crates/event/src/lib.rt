@@ -73,27 +73,14 @@ pub fn code_lawful(e: &[u8]) -> bool
     (0 < code) & (code < 11)
 }
 
-// The field f, of an event of the code row + 1, is in its range where it is used, and zero where it is not.
-fn field_lawful(e: &[u8], within: [bool; 10], row: usize, f: usize) -> bool
-    requires { ⌜ (length (now e) ≡ 32) × (row < 10) × (f < 10) ⌝ }
-    ensures { λ r. ⌜ r ≡ fieldLawful (now (e .entry)) within row f ⌝ }
-{
-    if flags::used(row, f) {
-        within[f]
-    } else {
-        flags::field_zero(e, f)
-    }
-}
-
-// All ten fields.
-fn each_lawful(e: &[u8], within: [bool; 10], row: usize) -> bool
-    requires { ⌜ (length (now e) ≡ 32) × (row < 10) ⌝ }
-    ensures { λ r. ⌜ r ≡ allBelow 10 (fieldLawful (now (e .entry)) within row) ⌝ }
+// Each of the ten fields is zero unless it is used, and in its range if it is.
+fn each_lawful(used: [bool; 10], zero: [bool; 10], within: [bool; 10]) -> bool
+    ensures { λ r. ⌜ r ≡ allBelow 10 (fieldLawful used zero within) ⌝ }
 {
     let mut all = true;
     let mut f = 0;
     while f < 10 {
-        all = all & field_lawful(e, within, row, f);
+        all = all & ((used[f] | zero[f]) & (!used[f] | within[f]));
         f += 1;
     }
     all
@@ -105,7 +92,8 @@ pub fn fields_lawful(e: &[u8], sites: u8, parts: u8) -> bool
     ensures { λ r. ⌜ r ≡ (unusedZero (now (e .entry)) && met (ranges (record { sites = sites; parts = parts }) (eventOf (now (e .entry))))) ⌝ }
 {
     let x = load_fields(e);
+    let used = flags::used((x.code - 1) as usize);
     let within = bounds::in_range(x, sites, parts);
-    let row = (x.code - 1) as usize;
-    each_lawful(e, within, row) & (flags::rest_zero(e) & flags::zeros(e, 28, 4))
+    each_lawful(used, flags::zero(e), within)
+        & (flags::rest_zero(e) & (codec::load_u32(e, 28) == 0))
 }

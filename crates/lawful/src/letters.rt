@@ -1,24 +1,17 @@
 // "each record and message in use has a lawful kind, its channel's source (for a message) or an existing source (for a record), and, save in a
-// heartbeat with its zeros, a key of its partition, and level and quality in range". In order: a level, a record by value, a record in bytes,
+// heartbeat with its zeros, a key of its partition, and level and quality in range". In order: a record by value, a record in bytes,
 // an update, a heartbeat, a message. Assumes nothing.
 ghost use mathlib.Core.Path.{_≡_};
 ghost use Prim.Native.Nat.{_+_, _≤_, _<_};
 ghost use lib.ListN.{length};
-ghost use Rattle.protocol.specs.Needs.{levelLawful};
 ghost use Rattle.protocol.specs.Record.{Update};
 ghost use Rattle.table.specs.Letter.{recordAt};
 ghost use Rattle.table.specs.Values.{asRecord};
 ghost use Rattle.lawful.specs.Values.{recordLawful, messageLawful};
 ghost use Rattle.lawful.specs.WellFormed.{recordFormed, beatFormed, messageFormed};
 use crate::vectors;
+use protocol::limits;
 use table::Reading;
-
-// "−50,000 to 1,000,000 mm from datum"
-pub fn level_lawful(x: i32) -> bool
-    ensures { λ r. ⌜ r ≡ levelLawful x ⌝ }
-{
-    (-50000 <= x) & (x <= 1000000)
-}
 
 // A record of partition p.
 pub fn record_lawful(x: Reading, sites: u8, parts: u8, p: u8) -> bool
@@ -26,10 +19,10 @@ pub fn record_lawful(x: Reading, sites: u8, parts: u8, p: u8) -> bool
     ensures { λ r. ⌜ r ≡ recordLawful (record { sites = sites; parts = parts }) p (asRecord x) ⌝ }
 {
     let carried = x.carried;
-    ((x.key < 64) & (x.key % parts == p))
+    ((x.key < 64) & (limits::partition_of(x.key, parts) == p))
         & ((x.source < sites)
             & ((x.quality < 3)
-                & (level_lawful(x.level)
+                & (limits::level_lawful(x.level)
                     & (vectors::time_lawful(x.stamp) & vectors::vector_lawful(carried, sites)))))
 }
 

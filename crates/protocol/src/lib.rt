@@ -1,7 +1,9 @@
-// Document 01's protocol without bytes: the definitions are in specs/, what is proved of them in proofs/. The code here is the answer alone,
-// the very type that the definitions use, and the numbers and values that it stands for. It touches nothing.
+// Document 01's protocol without bytes: the definitions are in specs/, what is proved of them in proofs/. The code here is the answer, the very
+// type that the definitions use, and the numbers and values that it stands for; `limits` has two of document 01's numbers. It touches nothing.
 ghost use mathlib.Core.Path.{_≡_};
 ghost use Rattle.protocol.specs.Event.{numberOf, sourceOf, qualityOf, levelOf, stampOf};
+
+pub mod limits;
 
 // A refusal, or the wait 3, with the source and the stamp that it names.
 pub struct Refusal {

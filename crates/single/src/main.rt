@@ -1,7 +1,5 @@
 // Events one by one: each event of standard input, which fits one buffer, is a call of the checked `step`, and its answer's number and stamp are printed.
 // The bench takes many at once; both give the same. Assumes nothing.
-ghost use Prim.Native.Nat.{_≤_};
-ghost use lib.ListN.{length};
 use libc::STDIN_FILENO;
 use libc::STDOUT_FILENO;
 use protocol::Answer;
@@ -13,17 +11,12 @@ fn show(a: Answer) {
     io::write_all(STDOUT_FILENO, b"\n");
 }
 
-fn each(buf: &[u8], n: usize, table: &mut [u8; 57344])
-    requires { ⌜ n ≤ length (now buf) ⌝ }
-{
-    let mut left = n / 32;
-    let mut at = 0;
-    while 0 < left {
-        let end = at + 32;
-        let a = archive::step(table, &buf[at..end]);
-        show(a);
-        at = end;
-        left -= 1;
+fn each(events: &[u8], table: &mut [u8; 57344]) {
+    let n = events.len() / 32;
+    let mut i = 0;
+    while i < n {
+        show(archive::step(table, reader::event_of(events, i)));
+        i += 1;
     }
 }
 
@@ -32,5 +25,5 @@ fn main() {
     let n = io::read_full(STDIN_FILENO, &mut buf);
     let mut table = [0u8; 57344];
     archive::setup(&mut table, 4, 4);
-    each(&buf, n, &mut table);
+    each(&buf[0..n], &mut table);
 }

@@ -1,7 +1,6 @@
 -- A piece on a sound table by its length; that it leaves the table sound; and runs, one piece more as the code counts. Assumes nothing.
-use Prim.Native.Nat.{ℕ, _+_, _*_, _-_, _<_, min}
+use Prim.Native.Nat.{ℕ, _+_, _*_}
 use native.Mathlib.Numerals.{add-one}
-use native.Mathlib.Omega.{arith}
 use mathlib.Core.Path.{_≡_, refl, sym, ap, subst, _∙_}
 use mathlib.Core.Logic.{_≢_}
 use mathlib.Core.Bool.{cond}
@@ -9,15 +8,14 @@ use mathlib.Core.List.{List}
 use lib.Dec.{eqb}
 use lib.ListN.{length}
 use borrow.Author.Tests.{eq-eqb, ne-eqb}
-use Rattle.codec.specs.Part.{partOf}
-use Rattle.codec.proofs.Part.{length-part}
 use Rattle.vector.proofs.Tests.{cond-elim}
 use Rattle.protocol.specs.declared.Answer.{Answer}
 use Rattle.lawful.proofs.Steps.{Sound, step-sound}
 use Rattle.event.specs.Event.{codeLawful, eventOf}
 use Rattle.event.specs.Fields.{unusedZero}
+use Rattle.reader.specs.Pieces.{pieceOf}
 use Rattle.steps.specs.Step.{Called, gives, refusedWith, refused, stepOn}
-use Rattle.steps.specs.Run.{pieceOf, putAnswer, ran, turned, runBy, pieceCall, turnedAway}
+use Rattle.steps.specs.Run.{putAnswer, ran, turned, runBy, pieceCall, turnedAway}
 
 module _ (t e : List ℕ) where
   pub piece-whole : length e ≡ 32 → pieceCall t e ≡ stepOn t e
@@ -37,11 +35,6 @@ module _ (t e : List ℕ) where
   pub piece-keeps : Sound t → Sound (pieceCall t e .table)
   unfolding pieceCall
   piece-keeps S = cond-elim (λ (c : Called). Sound (c .table)) (eqb (length e) 32) (λ a. step-keeps S) (λ a. S)
-
--- the piece that the code cuts out, k bytes long
-pub cut-piece : (es : List ℕ) (i k : ℕ) → k ≡ min 32 (length es - 32 * i) → partOf (32 * i) (32 * i + k - 32 * i) es ≡ pieceOf es i
-unfolding pieceOf
-cut-piece es i k q = let z : 32 * i + k - 32 * i ≡ min 32 (length es - 32 * i) = omega arith in ap (λ n. partOf (32 * i) n es) z
 
 pub turned-by : (i : ℕ) (t es b e u w : List ℕ) (a : Answer) → e ≡ pieceOf es i → gives a u ≡ pieceCall t e → w ≡ putAnswer b (16 * i) a → ran u w ≡ turned pieceCall i t es b
 unfolding turned
@@ -66,10 +59,7 @@ turned-sound t es b i u w r S = subst Sound (sym (ap (λ x. x .table) r)) (piece
 
 -- ---- a table that is refused
 
-pub away-by : (n i : ℕ) (es b w : List ℕ) (a : Answer) → 32 * i < length es → a ≡ refusedWith (cond (eqb (min 32 (length es - 32 * i)) 32) n 23) → w ≡ putAnswer b (16 * i) a → (t : List ℕ) → ran t w ≡ turned (turnedAway n) i t es b
-unfolding turned turnedAway pieceOf
-away-by n i es b w a h q z t =
-    ap (ran t) (z ∙ ap (putAnswer b (16 * i)) (q ∙ ap (λ k. refusedWith (cond (eqb k 32) n 23)) (sym (length-piece es i h))))
-  where
-    length-piece : (es : List ℕ) (i : ℕ) → 32 * i < length es → length (pieceOf es i) ≡ min 32 (length es - 32 * i)
-    length-piece es i h = length-part (32 * i) (min 32 (length es - 32 * i)) es (omega arith)
+pub away-by : (n i : ℕ) (es b e w : List ℕ) (a : Answer) → e ≡ pieceOf es i → a ≡ refusedWith (cond (eqb (length e) 32) n 23)
+    → w ≡ putAnswer b (16 * i) a → (t : List ℕ) → ran t w ≡ turned (turnedAway n) i t es b
+unfolding turned turnedAway
+away-by n i es b e w a q r z t = ap (ran t) (z ∙ ap (putAnswer b (16 * i)) (r ∙ ap (λ x. refusedWith (cond (eqb (length x) 32) n 23)) q))

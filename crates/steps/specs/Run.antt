@@ -1,20 +1,15 @@
--- Many events at once, by any call for one of them. The event bytes are taken in pieces of 32, the last as long as it is, and each answer goes into 16
--- bytes. Assumes nothing.
-use Prim.Native.Nat.{ℕ, zero, suc, _+_, _*_, _-_, min}
+-- Many events at once, by any call for one of them: the pieces that the reader gives, and each answer in 16 bytes. Assumes nothing.
+use Prim.Native.Nat.{ℕ, zero, suc, _+_, _*_}
 use mathlib.Core.Bool.{cond}
 use mathlib.Core.List.{List}
 use lib.Dec.{eqb}
 use lib.ListN.{length}
 use Rattle.codec.specs.Le.{put}
 use Rattle.codec.specs.Level.{bitsOf}
-use Rattle.codec.specs.Part.{partOf}
 use Rattle.protocol.specs.declared.Answer.{Answer}
 use Rattle.protocol.specs.Event.{numberOf, sourceOf, qualityOf, levelOf, stampOf}
+use Rattle.reader.specs.Pieces.{pieceOf}
 use Rattle.steps.specs.Step.{Called, refused, need, stepOn}
-
--- piece i of the event bytes
-unfoldable pub pieceOf : List ℕ → ℕ → List ℕ
-pieceOf es i = partOf (32 * i) (min 32 (length es - 32 * i)) es
 
 -- an answer's 16 bytes: 0 number, 1 source, 2 quality, 3 zero, 4–7 level, 8–15 stamp
 unfoldable pub putAnswer : List ℕ → ℕ → Answer → List ℕ

@@ -1,4 +1,4 @@
-// Event bytes in pieces of 32, and answers in 16 bytes each. Assumes nothing.
+// Answers: a refusal by its number, and any answer in 16 bytes. Assumes nothing.
 ghost use mathlib.Core.Path.{_≡_};
 ghost use Prim.Native.Nat.{_+_, _≤_};
 ghost use lib.ListN.{length};

@@ -1,6 +1,7 @@
-// Many events on a table known to be well formed: it stays so, so it is not checked again. In order: one piece, and all. Assumes nothing.
+// Many events on a table known to be well formed: it stays so, so it is not checked again. The reader gives each event in turn. In order: one piece, and
+// all; the same of a table that is refused. Assumes nothing.
 ghost use mathlib.Core.Path.{_≡_};
-ghost use Prim.Native.Nat.{ℕ, _+_, _*_, min, _≤_, _<_};
+ghost use Prim.Native.Nat.{ℕ, _+_, _*_, _≤_, _<_};
 ghost use mathlib.Core.Bool.{cond};
 ghost use mathlib.Core.List.{List};
 ghost use lib.Dec.{T, eqb};
@@ -10,12 +11,6 @@ ghost use Rattle.steps.specs.Step.{gives};
 ghost use Rattle.steps.specs.Run.{ran, turned, runBy, pieceCall, turnedAway};
 use crate::pieces;
 use protocol::Answer;
-
-fn at_most_32(left: usize) -> usize
-    ensures { λ r. ⌜ r ≡ min 32 left ⌝ }
-{
-    if left < 32 { left } else { 32 }
-}
 
 // A piece of the event bytes: all but the last have 32 bytes.
 pub fn piece(t: &mut [u8], e: &[u8]) -> Answer
@@ -34,9 +29,7 @@ pub fn turn(t: &mut [u8], es: &[u8], b: &mut [u8], i: usize)
     requires { ⌜ (length (now t) ≡ 57344) × T (wellFormed (now t)) × (32 * i < length (now es)) × (16 * i + 16 ≤ length (now b)) ⌝ }
     ensures { λ _. ⌜ ran (now (t .exit)) (now (b .exit)) ≡ turned pieceCall i (now (t .entry)) (now (es .entry)) (now (b .entry)) ⌝ }
 {
-    let from = 32 * i;
-    let end = from + at_most_32(es.len() - from);
-    let a = piece(t, &es[from..end]);
+    let a = piece(t, reader::event_of(es, i));
     pieces::store_answer(b, 16 * i, a);
 }
 
@@ -64,8 +57,8 @@ pub fn turn_away(es: &[u8], b: &mut [u8], i: usize, number: u8)
     requires { ⌜ (32 * i < length (now es)) × (16 * i + 16 ≤ length (now b)) ⌝ }
     ensures { λ _. ⌜ ((t : List ℕ) → ran t (now (b .exit)) ≡ turned (turnedAway number) i t (now (es .entry)) (now (b .entry))) ⌝ }
 {
-    let size = at_most_32(es.len() - 32 * i);
-    let a = pieces::refused(number_for(size, number));
+    let e = reader::event_of(es, i);
+    let a = pieces::refused(number_for(e.len(), number));
     pieces::store_answer(b, 16 * i, a);
 }
 

@@ -3,7 +3,7 @@
 use Prim.Native.Nat.{ℕ, zero, suc, _≤_, _<_, max}
 use native.Mathlib.Decide.{decLt}
 use native.Mathlib.Omega.{arith}
-use mathlib.Core.Path.{_≡_, sym, subst}
+use mathlib.Core.Path.{_≡_, refl, sym, subst, fun-ext}
 use mathlib.Core.Logic.{_⊎_, inl, inr, ⊎-elim}
 use mathlib.Core.Bool.{Bool, _||_}
 use lib.Dec.{T, leb, eqb, le→leb, eqb-refl}
@@ -110,3 +110,8 @@ raised-carried v w m t = le-trans w (larger v w) (atLeast (larger v w) m t) (lar
 pub raised-stamp : (v w : Vec) (m t : ℕ) → t ≤ raised v w m t m
 unfolding raised
 raised-stamp v w m t = at-least-stamp (larger v w) m t
+
+-- a vector with no stamp of its own raises to the entrywise larger
+pub raised-plain : (v w : Vec) (m : ℕ) → raised v w m 0 ≡ larger v w
+unfolding raised atLeast
+raised-plain v w m = fun-ext (λ i. cond-elim (λ n. n ≡ larger v w i) (eqb i m) (λ e. omega arith) (λ d. refl))

@@ -25,8 +25,11 @@
 //!
 //! Everything about an event or a table is decided by the proved core, for any
 //! bytes: this crate passes bytes on, and puts names on numbers. Nothing here panics.
+//!
+//! `make library` in the repository writes the library that is linked. It is looked
+//! for in target/staticlib there, or in the folder that LEVEL_ARCHIVE_LIB_DIR names.
 
-#![deny(unsafe_op_in_unsafe_fn)]
+#![deny(unsafe_code, unsafe_op_in_unsafe_fn)]
 #![warn(missing_docs)]
 
 mod answer;
@@ -39,6 +42,7 @@ mod page_keys;
 mod part;
 mod quality;
 mod refusal;
+#[allow(unsafe_code)] // the calls to the proved functions, and nothing else
 pub mod sys;
 mod view;
 

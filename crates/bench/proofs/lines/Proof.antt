@@ -1,6 +1,10 @@
--- `bench::lines`: the invariant keeps the place in step with the events printed; the measure is what is left of them. Assumes nothing.
+-- `bench::lines`: the invariant keeps the place in step with the events printed; the measure is what is left of them. An event that the
+-- reader gives before the end has a code. Assumes nothing.
 use Prim.Native.Nat.{_≤_, _+_, _-_}
-use mathlib.Core.Path.{_≡_}
+use mathlib.Core.Path.{_≡_, ap}
+use native.Mathlib.Omega.{arith}
+use lib.ListN.{length}
+use Rattle.reader.proofs.Pieces.{length-piece}
 use borrow.Author.Needs.{needs}
 use Rattle.bench.proofs.lines.Statement.{statement}
 use Rattle.bench.proofs.lines.Tie as tie
@@ -20,14 +24,17 @@ add-p c = search needs
 room-requires : tie.Need-room-requires Inv-loop μ-loop
 room-requires c κs = search needs
 
-mul-put-line : tie.Need-mul-put-line Inv-loop μ-loop
-mul-put-line c = search needs
+event-of-requires : tie.Need-event-of-requires Inv-loop μ-loop
+event-of-requires c κs = search needs
 
 shared-slice-read-put-line : tie.Need-shared-slice-read-put-line Inv-loop μ-loop
-shared-slice-read-put-line c = search needs
+shared-slice-read-put-line c =
+    let e = c .before .before in
+    let l = e .before .before .before .before .before in
+    omega (arith, ap length (e .event-of .ensures), length-piece (l .before .before .args .events .now) (l .loop .i))
 
-mul-put-line-2 : tie.Need-mul-put-line-2 Inv-loop μ-loop
-mul-put-line-2 c = search needs
+mul-put-line : tie.Need-mul-put-line Inv-loop μ-loop
+mul-put-line c = search needs
 
 put-line-requires : tie.Need-put-line-requires Inv-loop μ-loop
 put-line-requires c κs = search needs
@@ -56,9 +63,9 @@ lines-spec =
     loop-holds
     add-p
     room-requires
-    mul-put-line
+    event-of-requires
     shared-slice-read-put-line
-    mul-put-line-2
+    mul-put-line
     put-line-requires
     add-i
     loop-less

@@ -20,6 +20,15 @@ loop-holds c = search needs
 read-full-requires : tie.Need-read-full-requires Inv-loop μ-loop
 read-full-requires c κs = search needs
 
+sub-events : tie.Need-sub-events Inv-loop μ-loop
+sub-events c = search needs
+
+part-events-start : tie.Need-part-events-start Inv-loop μ-loop
+part-events-start c = search needs
+
+part-events-end : tie.Need-part-events-end Inv-loop μ-loop
+part-events-end c = search needs
+
 sub-whole : tie.Need-sub-whole Inv-loop μ-loop
 sub-whole c = search needs
 
@@ -37,7 +46,10 @@ run-requires c κs = search needs
 
 lines-requires : tie.Need-lines-requires Inv-loop μ-loop
 unfolding piecesOf
-lines-requires c κs = omega (arith, c .before .before .before .run .ensures .0)
+lines-requires c κs = omega (arith, c .before .before .run .ensures .0)
+
+event-of-requires : tie.Need-event-of-requires Inv-loop μ-loop
+event-of-requires c κs = search needs
 
 cut-requires : tie.Need-cut-requires Inv-loop μ-loop
 cut-requires c κs = search needs
@@ -71,12 +83,16 @@ run-spec =
     μ-loop
     loop-holds
     read-full-requires
+    sub-events
+    part-events-start
+    part-events-end
     sub-whole
     sub-run
     part-run-start
     part-run-end
     run-requires
     lines-requires
+    event-of-requires
     cut-requires
     same-length
     returns

@@ -10,16 +10,25 @@ use Rattle.event.proofs.each_lawful.Statement.{statement}
 use Rattle.event.proofs.each_lawful.Tie as tie
 
 abbrev Inv-loop : tie.InvT-loop
-Inv-loop e within row all₀ f₀ all f = (f ≤ 10) × (all ≡ allBelow f (fieldLawful e within row))
+Inv-loop used zero within all₀ f₀ all f = (f ≤ 10) × (all ≡ allBelow f (fieldLawful used zero within))
 
 abbrev μ-loop : tie.MeasureT-loop
-μ-loop e within row all₀ f₀ all f = 10 - f
+μ-loop used zero within all₀ f₀ all f = 10 - f
 
 loop-holds : tie.Need-loop-holds Inv-loop μ-loop
 loop-holds c = (omega arith, sym (allBelow-none _))
 
-field-lawful-requires : tie.Need-field-lawful-requires Inv-loop μ-loop
-field-lawful-requires c κs = search needs
+array-read-all : tie.Need-array-read-all Inv-loop μ-loop
+array-read-all c = search needs
+
+array-read-all-2 : tie.Need-array-read-all-2 Inv-loop μ-loop
+array-read-all-2 c = search needs
+
+array-read-all-3 : tie.Need-array-read-all-3 Inv-loop μ-loop
+array-read-all-3 c = search needs
+
+array-read-all-4 : tie.Need-array-read-all-4 Inv-loop μ-loop
+array-read-all-4 c = search needs
 
 add-f : tie.Need-add-f Inv-loop μ-loop
 add-f c = search needs
@@ -28,9 +37,10 @@ loop-less : tie.Need-loop-less Inv-loop μ-loop
 loop-less c = search needs
 
 loop-again : tie.Need-loop-again Inv-loop μ-loop
+unfolding fieldLawful
 loop-again c =
-    let l = c .before .before in
-    (omega arith, rw (l .loop .inv .1, c .field-lawful .ensures) (sym (allBelow-step (l .loop .f) _)))
+    let l = c .before in
+    (omega arith, rw (l .loop .inv .1) (sym (allBelow-step (l .loop .f) _)))
 
 returns : tie.Need-returns Inv-loop μ-loop
 returns c =
@@ -41,4 +51,15 @@ returns c =
 pub each-lawful-spec : {M : Type 1} → statement M
 each-lawful-spec =
     tie.close
-    (tie.spec Inv-loop μ-loop loop-holds field-lawful-requires add-f loop-less loop-again returns)
+    (tie.spec
+    Inv-loop
+    μ-loop
+    loop-holds
+    array-read-all
+    array-read-all-2
+    array-read-all-3
+    array-read-all-4
+    add-f
+    loop-less
+    loop-again
+    returns)

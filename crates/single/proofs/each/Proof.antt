@@ -1,29 +1,20 @@
--- `single::each` ends and reads no byte beyond the n that were read. Assumes nothing.
-use Prim.Native.Nat.{_+_, _*_, _≤_}
+-- `single::each` ends: the measure is what is left of the whole events. Assumes nothing.
+use Prim.Native.Nat.{_-_, _≤_}
 use borrow.Author.Needs.{needs}
 use Rattle.single.proofs.each.Statement.{statement}
 use Rattle.single.proofs.each.Tie as tie
 
 abbrev Inv-loop : tie.InvT-loop
-Inv-loop buf n table₀ left₀ at₀ table left at = at + 32 * left ≤ n
+Inv-loop events table₀ n i₀ table i = i ≤ n
 
 abbrev μ-loop : tie.MeasureT-loop
-μ-loop buf n table₀ left₀ at₀ table left at = left
+μ-loop events table₀ n i₀ table i = n - i
 
 loop-holds : tie.Need-loop-holds Inv-loop μ-loop
 loop-holds c = search needs
 
-add-end : tie.Need-add-end Inv-loop μ-loop
-add-end c = search needs
-
-sub-step : tie.Need-sub-step Inv-loop μ-loop
-sub-step c = search needs
-
-part-step-start : tie.Need-part-step-start Inv-loop μ-loop
-part-step-start c = search needs
-
-part-step-end : tie.Need-part-step-end Inv-loop μ-loop
-part-step-end c = search needs
+event-of-requires : tie.Need-event-of-requires Inv-loop μ-loop
+event-of-requires c κs = search needs
 
 step-requires : tie.Need-step-requires Inv-loop μ-loop
 step-requires c κs = search needs
@@ -31,8 +22,8 @@ step-requires c κs = search needs
 show-requires : tie.Need-show-requires Inv-loop μ-loop
 show-requires c κs = search needs
 
-sub-left : tie.Need-sub-left Inv-loop μ-loop
-sub-left c = search needs
+add-i : tie.Need-add-i Inv-loop μ-loop
+add-i c = search needs
 
 loop-less : tie.Need-loop-less Inv-loop μ-loop
 loop-less c = search needs
@@ -50,13 +41,10 @@ each-spec =
     Inv-loop
     μ-loop
     loop-holds
-    add-end
-    sub-step
-    part-step-start
-    part-step-end
+    event-of-requires
     step-requires
     show-requires
-    sub-left
+    add-i
     loop-less
     loop-again
     returns)

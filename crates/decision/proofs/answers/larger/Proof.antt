@@ -3,7 +3,7 @@ use mathlib.Core.Path.{ap, _∙_}
 use borrow.Author.Needs.{needs}
 use Rattle.vector.specs.Vec.{width}
 use Rattle.vector.specs.Entries.{entry}
-use Rattle.decision.proofs.Raised.{entry-larger}
+use Rattle.vector.proofs.Short.{entry-larger}
 use Rattle.decision.proofs.answers.larger.Statement.{statement}
 use Rattle.decision.proofs.answers.larger.Tie as tie
 
@@ -14,7 +14,7 @@ returns : tie.Need-returns
 unfolding width
 returns c =
     let a = c .before .args in
-    ap entry (c .larger-of .ensures) ∙ entry-larger (a .u .e) (a .v .e) (search needs) (search needs)
+    ap entry (c .larger-of .ensures) ∙ entry-larger (a .u .e) (search needs) (a .v .e) (search needs)
 
 pub larger-spec : {M : Type 1} → statement M
 larger-spec = tie.close (tie.spec larger-of-requires returns)

@@ -4,7 +4,7 @@ use native.Mathlib.Omega.{arith}
 use borrow.Author.Needs.{needs}
 use Rattle.vector.specs.Vec.{width}
 use Rattle.vector.specs.Entries.{entry}
-use Rattle.decision.proofs.Raised.{entry-raised}
+use Rattle.vector.proofs.Short.{entry-raised}
 use Rattle.decision.proofs.answers.raised.Statement.{statement}
 use Rattle.decision.proofs.answers.raised.Tie as tie
 
@@ -15,7 +15,7 @@ returns : tie.Need-returns
 unfolding width
 returns c =
     let a = c .before .args in
-    ap entry (c .raised .ensures) ∙ entry-raised (a .v .e) (a .carried .e) (search needs) (search needs) (a .source) (a .stamp) (omega arith)
+    ap entry (c .raised .ensures) ∙ entry-raised (a .v .e) (search needs) (a .carried .e) (search needs) (a .source) (a .stamp) (omega arith)
 
 pub raised-spec : {M : Type 1} → statement M
 raised-spec = tie.close (tie.spec raised-requires returns)

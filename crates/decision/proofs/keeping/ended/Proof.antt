@@ -13,8 +13,8 @@ opened-requires c κs = search needs
 returns : tie.Need-returns
 unfolding asSession opened
 returns c =
-    let a = c .before .args in
-    ap (λ (y : Session). record { isOpen = y .isOpen; site = y .site; vec = entry (a .vec .e); page = y .page }) (c .opened .ensures)
+    let x = c .before .before .args .x in
+    ap (λ (y : Session). record { isOpen = y .isOpen; site = y .site; vec = entry (x .vec .e); page = y .page }) (c .before .opened .ensures)
 
 pub ended-spec : {M : Type 1} → statement M
 ended-spec = tie.close (tie.spec opened-requires returns)

@@ -12,20 +12,20 @@ use Rattle.decision.proofs.lookup.partition.Tie as tie
 load-u8-requires : tie.Need-load-u8-requires
 load-u8-requires c κs = search needs
 
-rem-result : tie.Need-rem-result
+partition-of-requires : tie.Need-partition-of-requires
 unfolding settingIn
-rem-result c =
+partition-of-requires c κs =
     let s = c .before .before in
     omega (arith, c .load-u8 .ensures, parts-some (s .args .t .now) (s .pre .1))
 
 returns : tie.Need-returns
 unfolding partOf settingIn
 returns c =
-    let s = c .before .before in
+    let s = c .before .before .before in
     let some = parts-some (s .args .t .now) (s .pre .1) in
     let most = parts-at-most (s .args .t .now) (s .pre .1) in
     let less = mod-lt (s .args .k) some in
-    rw (c .load-u8 .ensures) (refl, omega arith)
+    rw (c .partition-of .ensures, c .before .load-u8 .ensures) (refl, omega arith)
 
 pub partition-spec : {M : Type 1} → statement M
-partition-spec = tie.close (tie.spec load-u8-requires rem-result returns)
+partition-spec = tie.close (tie.spec load-u8-requires partition-of-requires returns)

@@ -1,7 +1,11 @@
 -- `decision::pages::end` meets its contract: each return is a rung of the ladder. Assumes nothing.
-use mathlib.Core.Path.{_≡_, sym, _∙_}
+use mathlib.Core.Path.{_≡_, sym, ap, _∙_}
 use mathlib.Core.Bool.{true}
 use borrow.Author.Tests.{not-true, not-false}
+use Rattle.vector.specs.Vec.{larger}
+use Rattle.vector.specs.Entries.{entry}
+use Rattle.vector.proofs.Vec.{raised-plain}
+use Rattle.protocol.specs.State.{Session, noPage, opened}
 use Rattle.protocol.specs.Event.{END}
 use Rattle.table.specs.Values.{asSession}
 use Rattle.table.specs.Decode.{decode}
@@ -25,6 +29,20 @@ is-open e = not-false _ (e .if1 .left)
 
 is-paged : (e : tie.Else2) → e .before .before .before .before .session .result .paged ≡ true
 is-paged e = not-false _ (e .if2 .left)
+
+-- the session that was loaded, from where what its page gathered is taken
+loaded : tie.After-gathered → tie.After-session
+loaded c = c .before .before .before .before .before .before .before .before .before
+
+-- without its page, and raised by what that gathered
+raised : (w : tie.After-ended) → let x = loaded (w .before .before) .session .result in
+    asSession (w .ended .result) ≡ opened (x .site) (larger (entry (x .vec .e)) (entry (x .gathered .e))) noPage
+unfolding asSession loaded
+raised w =
+    let x = loaded (w .before .before) .session .result in
+    w .ended .ensures
+    ∙ ap (λ (y : Session). opened (y .site) (y .vec) noPage) (w .before .lent .ensures)
+    ∙ rw (raised-plain (entry (x .vec .e)) (entry (x .gathered .e)) (x .site))
 
 -- ---- the needs
 
@@ -68,8 +86,10 @@ returns-3 c =
     let k = e .before .before in
     c .refused3 .ensures ∙ sym (says k ∙ rw (is-open e, is-paged e2, sym (u .all-read .ensures (k .session .result .keys)), not-true (u .all-read .result) (c .before .if3 .taken)))
 
-larger-requires : tie.Need-larger-requires
-larger-requires c κs = search needs
+lent-requires : tie.Need-lent-requires
+lent-requires c κs =
+    let e = c .before .before .before .before .before .before .before in
+    e .before .before .session .ensures .2 (is-open e)
 
 ended-requires : tie.Need-ended-requires
 ended-requires c κs = search needs
@@ -78,15 +98,15 @@ kept-requires : tie.Need-kept-requires
 kept-requires c κs = search needs
 
 returns-4 : tie.Need-returns-4
-unfolding asSession
+unfolding asSession loaded
 returns-4 c =
     let w = c .before in
-    let e3 = w .before .before .before .before in
+    let e3 = w .before .before .before in
     let u = e3 .before in
     let e2 = u .before .before .before in
     let e = e2 .before .before in
     let k = e .before .before in
-    c .kept .ensures ∙ sym (says k ∙ rw (w .ended .ensures, w .before .larger .ensures, is-open e, is-paged e2, sym (u .all-read .ensures (k .session .result .keys)), not-false (u .all-read .result) (e3 .if3 .left)))
+    c .kept .ensures ∙ sym (says k ∙ rw (is-open e, is-paged e2, sym (u .all-read .ensures (k .session .result .keys)), not-false (u .all-read .result) (e3 .if3 .left), raised w))
 
 pub end-spec : {M : Type 1} → statement M
 end-spec =
@@ -101,7 +121,7 @@ end-spec =
     all-read-requires
     refused-requires-3
     returns-3
-    larger-requires
+    lent-requires
     ended-requires
     kept-requires
     returns-4)

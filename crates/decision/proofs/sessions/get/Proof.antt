@@ -104,14 +104,13 @@ newest-requires c κs =
     let k = e .before .before in
     (search needs, k .before .before .pre .1, k .session .ensures .2 (is-open e), h .before .partition .ensures .1)
 
-raised-by-requires : tie.Need-raised-by-requires
-raised-by-requires c κs = search needs
-
 shown-requires : tie.Need-shown-requires
 shown-requires c κs = search needs
 
-with-vector-requires : tie.Need-with-vector-requires
-with-vector-requires c κs = search needs
+raised-by-requires : tie.Need-raised-by-requires
+raised-by-requires c κs =
+    let n = c .before in
+    (is-open (n .before .before .before .before .before .before .before), n .newest .ensures .1)
 
 kept-requires : tie.Need-kept-requires
 kept-requires c κs = search needs
@@ -120,11 +119,11 @@ returns-4 : tie.Need-returns-4
 unfolding asSession loaded
 returns-4 c =
     let w = c .before in
-    let n = w .before .before .before in
+    let n = w .before .before in
     let u = n .before .before in
     let e2 = u .before .before .before .before in
     let k = e2 .before .before .before in
-    c .kept .ensures ∙ sym (says k ∙ rw (is-open (e2 .before), w .with-vector .ensures, e2 .if2 .left, sym (ready u), not-false (u .at-most-but .result) (n .before .if3 .left), w .before .before .raised-by .ensures, w .before .shown .ensures, shows n))
+    c .kept .ensures ∙ sym (says k ∙ rw (is-open (e2 .before), w .raised-by .ensures, e2 .if2 .left, sym (ready u), not-false (u .at-most-but .result) (n .before .if3 .left), w .before .shown .ensures, shows n))
 
 pub get-spec : {M : Type 1} → statement M
 get-spec =
@@ -142,8 +141,7 @@ get-spec =
     refused-requires-3
     returns-3
     newest-requires
-    raised-by-requires
     shown-requires
-    with-vector-requires
+    raised-by-requires
     kept-requires
     returns-4)

@@ -5,10 +5,10 @@ use lib.ListN.{length}
 use mir.ValLaws.{toZ-ofZ}
 use mir.Syntax.{w32}
 use Rattle.vector.specs.Vec.{width}
+use Rattle.vector.proofs.Short.{entry-with}
 use Rattle.protocol.specs.Serve.{written}
 use Rattle.table.specs.Values.{messageOf, asSession}
 use Rattle.decision.specs.Decided.{changesOf, outcomeOf}
-use Rattle.decision.proofs.Put.{entry-with}
 use borrow.Author.Needs.{needs}
 use Rattle.decision.proofs.writes.stored.Statement.{statement}
 use Rattle.decision.proofs.writes.stored.Tie as tie
@@ -31,7 +31,7 @@ unfolding outcomeOf changesOf messageOf asSession written width
 returns c =
     let s = c .before .before .before in
     let x = s .args .x in
-    rw (c .with-vector .ensures, c .before .with-entry .ensures, entry-with (x .vec .e) (x .site) (s .args .stamp) (four s) (omega arith), toZ-ofZ w32 (s .args .level) (search needs))
+    rw (c .with-vector .ensures, c .before .with-entry .ensures, entry-with (x .vec .e) (four s) (x .site) (s .args .stamp) (omega arith), toZ-ofZ w32 (s .args .level) (search needs))
 
 pub stored-spec : {M : Type 1} → statement M
 stored-spec = tie.close (tie.spec cast-with-entry with-entry-requires with-vector-requires returns)

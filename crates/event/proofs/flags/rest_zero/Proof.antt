@@ -1,5 +1,5 @@
--- `event::flags::rest_zero` meets its contract: `all` says it of the first i keys. Assumes nothing.
-use mathlib.Core.Path.{_≡_, sym}
+-- `event::flags::rest_zero` meets its contract: no keys at all, or `all` says it of the first i. Assumes nothing.
+use mathlib.Core.Path.{_≡_, sym, _∙_}
 use mathlib.Core.Bool.{_||_}
 use Prim.Native.Nat.{_-_, _+_, _≤_}
 use native.Mathlib.Omega.{arith}
@@ -8,6 +8,7 @@ use Rattle.codec.specs.Le.{load}
 use Rattle.vector.specs.Vec.{allBelow}
 use Rattle.vector.proofs.Entries.{allBelow-none, allBelow-step}
 use Rattle.event.specs.Fields.{restZero}
+use Rattle.event.proofs.Keys.{rest-none}
 use borrow.Author.Needs.{needs}
 use Rattle.event.proofs.flags.rest_zero.Statement.{statement}
 use Rattle.event.proofs.flags.rest_zero.Tie as tie
@@ -17,6 +18,15 @@ Inv-loop e count all₀ i₀ all i = (i ≤ 8) × (count ≡ load 1 e 7) × (all
 
 abbrev μ-loop : tie.MeasureT-loop
 μ-loop e count all₀ i₀ all i = 8 - i
+
+load-u64-requires : tie.Need-load-u64-requires Inv-loop μ-loop
+load-u64-requires c κs = search needs
+
+returns : tie.Need-returns Inv-loop μ-loop
+returns c =
+    let r = c .before in
+    let z : r .load-u64 .result ≡ 0 = omega arith in
+    sym (rest-none (r .before .before .args .e .now) (sym (r .load-u64 .ensures) ∙ z))
 
 load-u8-requires : tie.Need-load-u8-requires Inv-loop μ-loop
 load-u8-requires c κs = search needs
@@ -44,9 +54,9 @@ loop-again c =
     let l = c .before .before in
     (omega arith, l .loop .inv .1, rw (l .loop .inv .2, c .load-u82 .ensures) (sym (allBelow-step (l .loop .i) _)))
 
-returns : tie.Need-returns Inv-loop μ-loop
+returns-2 : tie.Need-returns-2 Inv-loop μ-loop
 unfolding restZero
-returns c =
+returns-2 c =
     let l = c .before in
     let e : l .loop .i ≡ 8 = omega arith in
     rw (e, l .loop .inv .1) at (l .loop .inv .2)
@@ -57,6 +67,8 @@ rest-zero-spec =
     (tie.spec
     Inv-loop
     μ-loop
+    load-u64-requires
+    returns
     load-u8-requires
     cast-count
     loop-holds
@@ -65,4 +77,4 @@ rest-zero-spec =
     add-i
     loop-less
     loop-again
-    returns)
+    returns-2)

@@ -9,8 +9,8 @@ use borrow.Author.Needs.{needs}
 use Rattle.lawful.proofs.letters.record_lawful.Statement.{statement}
 use Rattle.lawful.proofs.letters.record_lawful.Tie as tie
 
-rem-result : tie.Need-rem-result
-rem-result c = search needs
+partition-of-requires : tie.Need-partition-of-requires
+partition-of-requires c κs = search needs
 
 level-lawful-requires : tie.Need-level-lawful-requires
 level-lawful-requires c κs = search needs
@@ -24,10 +24,12 @@ vector-lawful-requires c κs = search needs
 returns : tie.Need-returns
 unfolding recordLawful asRecord partOf
 returns c =
-    let a = c .before .before .before .before .before .before .before .before .before .args in
-    rw (c .before .before .level-lawful .ensures, toZ-ofZ w32 (a .x .level) (search needs), c .before .time-lawful .ensures, c .vector-lawful .ensures (a .parts))
+    let key = c .before .before .before .before .before .before in
+    let a = key .before .before .before .args in
+    rw
+    (key .partition-of .ensures, c .before .before .level-lawful .ensures, toZ-ofZ w32 (a .x .level) (search needs), c .before .time-lawful .ensures, c .vector-lawful .ensures (a .parts))
 
 pub record-lawful-spec : {M : Type 1} → statement M
 record-lawful-spec =
     tie.close
-    (tie.spec rem-result level-lawful-requires time-lawful-requires vector-lawful-requires returns)
+    (tie.spec partition-of-requires level-lawful-requires time-lawful-requires vector-lawful-requires returns)

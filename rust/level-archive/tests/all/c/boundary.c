@@ -112,7 +112,7 @@ static void run_lengths(void) {
             memset(room_given, 0xa5, given);
             must(level_archive_run(table_of(TABLE), TABLE, event_of(open, length), length, room_given, given) == answered, "run", length, given);
             for (i = 16 * answered; i < given; i++) must(room_given[i] == 0xa5, "run wrote too far", length, given);
-            if (answered == 3) must(room_given[0] == (length < EVENT ? 23 : 0) && room_given[16] == 10, "run's answers", length, given);
+            if (answered == 3) must(room_given[0] == 0 && room_given[16] == 10 && room_given[32] == (length == 96 ? 10 : 23), "run's answers", length, given);
         }
 }
 
@@ -142,29 +142,43 @@ static void codes(void) {
 
 typedef struct { int first, length; uint64_t too_large; } field;
 
-static const field FIELDS[] = {{1, 1, 2}, {2, 1, 3}, {3, 1, 16}, {4, 1, 64}, {5, 1, 3}, {6, 1, 2}, {7, 1, 9}, {8, 8, UINT64_C(1) << 48}, {16, 4, 1000001}, {20, 1, 64}, {21, 7, 1}, {28, 4, 1}};
+/* site, partition, session, key, quality, from, count, time, level, the first page key, the others, the last four bytes */
+static const field FIELDS[] = {{1, 1, 2}, {2, 1, 3}, {3, 1, 16}, {4, 1, 64}, {5, 1, 3}, {6, 1, 2}, {7, 1, 9}, {8, 8, UINT64_C(1) << 48},
+                               {16, 4, 1000001}, {20, 1, 64}, {21, 7, 1}, {28, 4, 1}};
 enum { FIELDS_COUNT = sizeof FIELDS / sizeof FIELDS[0] };
 
 /* Document 01's table: which of FIELDS each code uses (BEGIN here with one key). */
-static const char *USED[10] = {"s-s---------", "--s---------", "sp-----t----", "--sk--------", "--skq---l---", "-ps---c--k--", "--sk--------", "--s---------", "sp----------", "sp---f------"};
+static const char *USED[10] = {"s-s---------", "--s---------", "sp-----t----", "--sk--------", "--skq---l---",
+                               "-ps---c--k--", "--sk--------", "--s---------", "sp----------", "sp---f------"};
+
+/* An event of the code with zeros, and what it must have: from 1 to 0, a page of one key. */
+static void lawful(uint8_t bytes[EVENT], int code) {
+    memset(bytes, 0, EVENT);
+    bytes[0] = (uint8_t)code;
+    bytes[6] = code == 10;
+    bytes[7] = code == 6;
+}
 
 static void fields(void) {
-    uint8_t bytes[EVENT], *table = table_of(TABLE);
-    int code, i, byte;
+    uint8_t bytes[EVENT], *table;
+    level_archive_answer a;
+    int code, i, byte, b;
     uint64_t number;
-    for (code = 1; code <= 10; code++)
+    for (code = 1; code <= 10; code++) {
+        lawful(bytes, code);
+        a = level_archive_step(table_of(TABLE), TABLE, event_of(bytes, EVENT), EVENT);
+        must(a.number != 10 && a.number != 11, "a lawful event's number", (size_t)code, a.number);
+        table = table_of(TABLE);
         for (i = 0; i < FIELDS_COUNT; i++) {
             const int used = USED[code - 1][i] != '-';
             for (byte = 0; byte < (used ? 1 : FIELDS[i].length); byte++) {
-                memset(bytes, 0, EVENT);
-                bytes[0] = (uint8_t)code;
-                bytes[6] = code == 10; /* from 1 to 0 */
-                bytes[7] = code == 6;
+                lawful(bytes, code);
                 number = used ? FIELDS[i].too_large : UINT64_C(1) << (8 * byte);
-                for (int b = 0; b < FIELDS[i].length; b++) bytes[FIELDS[i].first + b] = (uint8_t)(number >> (8 * b));
+                for (b = 0; b < FIELDS[i].length; b++) bytes[FIELDS[i].first + b] = (uint8_t)(number >> (8 * b));
                 refused(table, TABLE, event_of(bytes, EVENT), EVENT, 11);
             }
         }
+    }
 }
 
 /* ---- null pointers: with length 0 to the proved functions, with any length to the checked ones */

@@ -1,0 +1,2 @@
+-- The pieces of event bytes.
+pub mod Pieces

@@ -1,0 +1,33 @@
+//! `levels draw`: a run as a picture.
+
+use super::archive;
+use super::options::Options;
+use super::output::Output;
+use crate::draw::{MOST_EVENTS, picture};
+use crate::failure::Failure;
+use crate::input::{Item, Source};
+
+/// The picture of a run.
+pub fn draw(options: &Options) -> Result<(), Failure> {
+    let mut story = archive::usual(options)?;
+    let mut happenings = Vec::new();
+    let source = Source::open(options.input.as_deref())?;
+    let name = source.name.clone();
+    for item in source.events(options.form)? {
+        match item? {
+            Item::Archive { sites, partitions, place } => {
+                story = archive::of_line(options, sites, partitions, &place)?;
+            }
+            Item::Event(_) if happenings.len() == MOST_EVENTS => {
+                let most = "a picture shows at most";
+                return Err(Failure::Input(format!(
+                    "{name}: {most} {MOST_EVENTS} events, and there are more"
+                )));
+            }
+            Item::Event(piece) => happenings.push(story.step(piece)),
+        }
+    }
+    let mut output = Output::open(options.output.as_deref())?;
+    output.write(picture(&happenings).as_bytes())?;
+    output.finish()
+}

@@ -1,0 +1,148 @@
+//! What stands behind the command's name.
+
+use std::ffi::{OsStr, OsString};
+
+use super::Command;
+use crate::failure::Failure;
+use crate::input::Form;
+
+/// What was asked for.
+#[derive(Debug, Default)]
+pub struct Options {
+    /// The file with events; standard input if none.
+    pub input: Option<OsString>,
+    /// The file to be written; standard output if none.
+    pub output: Option<OsString>,
+    /// Text or bytes, if it was said.
+    pub form: Option<Form>,
+    /// The archive's number of sites, if it was said.
+    pub sites: Option<u32>,
+    /// The archive's number of partitions, if it was said.
+    pub partitions: Option<u32>,
+    /// Whether what can't be written as text becomes a comment.
+    pub lenient: bool,
+    /// Whether help was asked for.
+    pub help: bool,
+}
+
+impl Options {
+    /// The options of a command.
+    pub fn parse(
+        command: Command,
+        arguments: impl Iterator<Item = OsString>,
+    ) -> Result<Options, Failure> {
+        let mut options = Options::default();
+        let mut arguments = arguments;
+        let mut only_files = false;
+        while let Some(argument) = arguments.next() {
+            match argument.to_str() {
+                Some("--") if !only_files => only_files = true,
+                Some(option) if !only_files && option.starts_with('-') && option != "-" => {
+                    options.option(command, option, &mut arguments)?;
+                }
+                _ => set(&mut options.input, argument, "an input file")?,
+            }
+        }
+        Ok(options)
+    }
+
+    /// One option; its value is behind `=` or the next argument.
+    fn option(
+        &mut self,
+        command: Command,
+        option: &str,
+        arguments: &mut impl Iterator<Item = OsString>,
+    ) -> Result<(), Failure> {
+        let (name, joined) = match option.split_once('=') {
+            Some((name, value)) if name.starts_with("--") => (name, Some(OsString::from(value))),
+            _ => (option, None),
+        };
+        let runs = matches!(command, Command::Run | Command::Draw);
+        let takes_value = match name {
+            "-h" | "--help" | "--lenient" | "--text" | "--bytes" => false,
+            "-o" | "--output" | "--sites" | "--partitions" => true,
+            _ => return Err(unknown(command, name)),
+        };
+        let value = match (takes_value, joined) {
+            (false, Some(_)) => return Err(Failure::Usage(format!("{name} has no value"))),
+            (false, None) => OsString::new(),
+            (true, joined) => joined
+                .or_else(|| arguments.next())
+                .ok_or_else(|| Failure::Usage(format!("{name} needs a value")))?,
+        };
+        match name {
+            "-h" | "--help" => self.help = true,
+            "-o" | "--output" => set(&mut self.output, value, "an output file")?,
+            "--lenient" if command == Command::Decode => self.lenient = true,
+            "--text" if runs => set(&mut self.form, Form::Text, "--text or --bytes")?,
+            "--bytes" if runs => set(&mut self.form, Form::Bytes, "--text or --bytes")?,
+            "--sites" if runs => set(&mut self.sites, number(name, &value)?, name)?,
+            "--partitions" if runs => set(&mut self.partitions, number(name, &value)?, name)?,
+            _ => return Err(unknown(command, name)),
+        }
+        Ok(())
+    }
+}
+
+/// Sets what may be said once.
+fn set<T>(place: &mut Option<T>, value: T, what: &str) -> Result<(), Failure> {
+    match place.replace(value) {
+        None => Ok(()),
+        Some(_) => Err(Failure::Usage(format!("{what} can be named only once"))),
+    }
+}
+
+fn number(name: &str, value: &OsStr) -> Result<u32, Failure> {
+    let text = value.to_string_lossy();
+    text.parse().map_err(|_| Failure::Usage(format!("{name} {text} is not a number")))
+}
+
+fn unknown(command: Command, option: &str) -> Failure {
+    let name = command.name();
+    Failure::Usage(format!("{name} has no option {option}; see levels {name} --help"))
+}
+
+#[cfg(test)]
+mod tests {
+    use super::*;
+
+    fn parsed(command: Command, words: &str) -> Result<Options, String> {
+        Options::parse(command, words.split_whitespace().map(OsString::from))
+            .map_err(|failure| failure.to_string())
+    }
+
+    #[test]
+    fn options_and_files_in_any_order() {
+        let options = parsed(Command::Run, "--sites=2 in --partitions 3 --bytes -o out").unwrap();
+        assert_eq!((options.sites, options.partitions), (Some(2), Some(3)));
+        assert_eq!((options.input, options.output), (Some("in".into()), Some("out".into())));
+        assert_eq!(options.form, Some(Form::Bytes));
+        assert_eq!(parsed(Command::Encode, "-- --help").unwrap().input, Some("--help".into()));
+        assert_eq!(parsed(Command::Encode, "-").unwrap().input, Some("-".into()));
+    }
+
+    #[test]
+    fn what_is_wrong_is_said() {
+        let wrong = [
+            (
+                Command::Encode,
+                "--lenient",
+                "encode has no option --lenient; see levels encode --help",
+            ),
+            (
+                Command::Decode,
+                "--sites 2",
+                "decode has no option --sites; see levels decode --help",
+            ),
+            (Command::Draw, "-x", "draw has no option -x; see levels draw --help"),
+            (Command::Run, "--sites", "--sites needs a value"),
+            (Command::Run, "--sites two", "--sites two is not a number"),
+            (Command::Run, "--text --bytes", "--text or --bytes can be named only once"),
+            (Command::Run, "--text=1", "--text has no value"),
+            (Command::Run, "a b", "an input file can be named only once"),
+        ];
+        for (command, words, message) in wrong {
+            assert_eq!(parsed(command, words).unwrap_err(), format!("levels: {message}"));
+        }
+    }
+}
