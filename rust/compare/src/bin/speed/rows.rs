@@ -5,13 +5,15 @@ use std::time::{Duration, Instant};
 
 use compare::subject::told;
 use level_archive::{ANSWER_BYTES, Archive, EVENT_BYTES};
-use plain::{Answer, table};
+use plain::table;
 
 use crate::scene::Scene;
 
 /// The events of a stretch: short, so that few stretches are disturbed by what
 /// else the machine does.
 const STRETCH: usize = 25;
+/// The events of one call of `run`, which checks the table once for all of them.
+const RUN_STRETCH: usize = 2_500;
 
 /// One way through the events of a scene; gives the time of each stretch.
 pub type Row<'a> = Box<dyn FnMut() -> Vec<Duration> + 'a>;
@@ -41,76 +43,81 @@ pub const NAMES: [&str; 6] = [
 
 /// All rows, in the order of their names.
 pub fn all(scene: &Scene) -> Vec<Row<'_>> {
-    let core = || Archive::over(scene.table.clone());
     vec![
-        Box::new(move || {
-            let mut core = core();
-            stretches(scene, STRETCH, |events, _| {
-                each(events, |event| core.step_bytes(event).number())
-            })
-        }),
-        Box::new(move || {
-            let mut archive = scene.archive.clone();
-            stretches(scene, STRETCH, |events, _| {
-                each(events, |event| plain_step(&mut archive, &scene.table, event).number)
-            })
-        }),
-        Box::new(move || {
-            let mut core = core();
-            stretches(scene, RUN_STRETCH, |events, answers| core.run_bytes(events, answers) as u64)
-        }),
-        Box::new(move || {
-            let mut archive = scene.archive.clone();
-            stretches(scene, RUN_STRETCH, |events, answers| {
-                run_structs(&mut archive, events, answers)
-            })
-        }),
-        Box::new(move || {
-            let mut core = core();
-            stretches(scene, STRETCH, |events, _| {
-                each(events, |_| core.step_bytes(&[0; EVENT_BYTES]).number())
-            })
-        }),
-        Box::new(move || {
-            stretches(scene, STRETCH, |events, _| {
-                each(events, |_| u8::from(table::well_formed(black_box(&scene.table))))
-            })
-        }),
+        Box::new(|| stretches(scene, STRETCH, core(scene), step, |_, _| ())),
+        Box::new(|| stretches(scene, STRETCH, both(scene), plain_step, follow)),
+        Box::new(|| stretches(scene, RUN_STRETCH, core(scene), run, |_, _| ())),
+        Box::new(|| stretches(scene, RUN_STRETCH, both(scene), run_structs, |_, _| ())),
+        Box::new(|| stretches(scene, STRETCH, both(scene), check, follow)),
+        Box::new(|| stretches(scene, STRETCH, both(scene), plain_check, follow)),
     ]
 }
 
-/// The events of one call of `run`, which checks the table once for all of them.
-const RUN_STRETCH: usize = 2_500;
+/// The core at a scene's start.
+fn core(scene: &Scene) -> Archive {
+    Archive::over(scene.table.clone())
+}
+
+/// The same state as structs and, for what only checks the bytes, in the core.
+struct Both {
+    archive: plain::Archive,
+    core: Archive,
+}
+
+fn both(scene: &Scene) -> Both {
+    Both { archive: scene.archive.clone(), core: core(scene) }
+}
+
+/// Brings the bytes to the end of a stretch, which isn't timed: so the check looks
+/// at the bytes that the core has there.
+fn follow(both: &mut Both, events: &[u8]) {
+    both.core.run_bytes(events, &mut vec![0; events.len() / EVENT_BYTES * ANSWER_BYTES]);
+}
+
+fn step(core: &mut Archive, events: &[u8], _: &mut [u8]) -> u64 {
+    each(events, |event| core.step_bytes(event).number())
+}
+
+/// The whole check over the table's bytes, then the step over structs.
+fn plain_step(both: &mut Both, events: &[u8], _: &mut [u8]) -> u64 {
+    each(events, |event| match table::well_formed(black_box(both.core.bytes())) {
+        true => both.archive.step(event).number,
+        false => 24,
+    })
+}
+
+fn run(core: &mut Archive, events: &[u8], answers: &mut [u8]) -> u64 {
+    core.run_bytes(events, answers) as u64
+}
+
+/// Events over structs, with answers of 16 bytes as `run` gives them.
+fn run_structs(both: &mut Both, events: &[u8], answers: &mut [u8]) -> u64 {
+    let places = answers.chunks_exact_mut(ANSWER_BYTES);
+    for (event, answer) in events.chunks_exact(EVENT_BYTES).zip(places) {
+        answer.copy_from_slice(&told(&both.archive.step(event)));
+    }
+    answers[0].into()
+}
+
+/// A code that isn't one is refused right after the check.
+fn check(both: &mut Both, events: &[u8], _: &mut [u8]) -> u64 {
+    each(events, |_| both.core.step_bytes(&[0; EVENT_BYTES]).number())
+}
+
+fn plain_check(both: &mut Both, events: &[u8], _: &mut [u8]) -> u64 {
+    each(events, |_| table::well_formed(black_box(both.core.bytes())).into())
+}
 
 /// The ways give the same answers and the same table.
 pub fn agree(scene: &Scene) {
     let mut answers = vec![0; scene.events.len() / EVENT_BYTES * ANSWER_BYTES];
     let mut of_structs = answers.clone();
-    let mut core = Archive::over(scene.table.clone());
-    core.run_bytes(&scene.events, &mut answers);
-    let mut archive = scene.archive.clone();
-    run_structs(&mut archive, &scene.events, &mut of_structs);
+    let mut both = both(scene);
+    run(&mut both.core, &scene.events, &mut answers);
+    run_structs(&mut both, &scene.events, &mut of_structs);
     assert!(answers == of_structs, "the answers differ");
-    let said = table::read(core.bytes()).expect("a well-formed table");
-    assert_eq!(table::difference(&said, &archive), None);
-}
-
-/// The whole check over the table's bytes, then the step over structs: the bytes
-/// stay those with which the scene starts.
-fn plain_step(archive: &mut plain::Archive, table: &[u8], event: &[u8]) -> Answer {
-    match table::well_formed(black_box(table)) {
-        true => archive.step(event),
-        false => Answer::only(24),
-    }
-}
-
-/// Events over structs, with answers of 16 bytes as `run` gives them.
-fn run_structs(archive: &mut plain::Archive, events: &[u8], answers: &mut [u8]) -> u64 {
-    let places = answers.chunks_exact_mut(ANSWER_BYTES);
-    for (event, answer) in events.chunks_exact(EVENT_BYTES).zip(places) {
-        answer.copy_from_slice(&told(&archive.step(event)));
-    }
-    answers[0].into()
+    let said = table::read(both.core.bytes()).expect("a well-formed table");
+    assert_eq!(table::difference(&said, &both.archive), None);
 }
 
 /// Each event by itself; the sum of what is told keeps all of them.
@@ -118,17 +125,21 @@ fn each(events: &[u8], mut step: impl FnMut(&[u8]) -> u8) -> u64 {
     events.chunks_exact(EVENT_BYTES).map(|event| u64::from(step(event))).sum()
 }
 
-/// Takes the events in stretches and times each.
-fn stretches(
+/// Takes the events in stretches and times each; `after` isn't timed.
+fn stretches<S>(
     scene: &Scene,
     length: usize,
-    mut work: impl FnMut(&[u8], &mut [u8]) -> u64,
+    mut state: S,
+    work: fn(&mut S, &[u8], &mut [u8]) -> u64,
+    after: fn(&mut S, &[u8]),
 ) -> Vec<Duration> {
     let mut answers = vec![0; length * ANSWER_BYTES];
-    let mut time = |events: &[u8]| {
+    let time = |events: &[u8]| {
         let start = Instant::now();
-        black_box(work(events, &mut answers));
-        start.elapsed()
+        black_box(work(&mut state, events, &mut answers));
+        let took = start.elapsed();
+        after(&mut state, events);
+        took
     };
-    scene.events.chunks(length * EVENT_BYTES).map(&mut time).collect()
+    scene.events.chunks(length * EVENT_BYTES).map(time).collect()
 }
