@@ -1,12 +1,14 @@
 //! Document 01 over plain structs: causal replication for a level archive.
 //!
-//! The state is typed and never bytes; only events come as bytes. So an answer
-//! of 24 (a table that isn't well formed) can't arise here.
+//! The state is typed and never bytes; only events come as bytes. So a step
+//! never gives 24 (a table that isn't well formed).
 //!
 //! * [`Archive`] is the archive; [`Archive::step`] takes one event.
 //! * [`mod@bench`] is the bench program between any input and output.
 //! * [`causal`] watches events and answers for a breach of causality.
 //! * [`stream`] makes pseudo-random lists of events.
+//! * [`table`] is the core's table of bytes: whether it is well formed, and
+//!   the archive that it says.
 
 #![forbid(unsafe_code)]
 #![warn(missing_docs)]
@@ -28,6 +30,7 @@ pub mod limits;
 pub mod make;
 pub mod random;
 pub mod stream;
+pub mod table;
 pub mod vector;
 
 #[cfg(test)]

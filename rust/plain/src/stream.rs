@@ -112,6 +112,18 @@ impl Stream {
         &self.event[..length]
     }
 
+    /// Takes an event of 32 bytes that comes from elsewhere, so that the stream
+    /// goes on behind it.
+    pub fn take(&mut self, event: &Bytes) {
+        self.event[..EVENT_BYTES].copy_from_slice(event);
+        self.note(EVENT_BYTES);
+    }
+
+    /// The archive that the stream's events have made.
+    pub fn archive(&self) -> &Archive {
+        &self.archive
+    }
+
     /// Takes the event into the stream's own archive, and plans for a wait.
     fn note(&mut self, length: usize) {
         self.place += 1;

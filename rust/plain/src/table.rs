@@ -1,0 +1,15 @@
+//! The archive's table of 57,344 bytes, as docs/LAYOUT.md lays it out: whether
+//! it is well formed, and what it then says.
+//!
+//! Written from document 01's "A table is well formed when", docs/LAYOUT.md and
+//! docs/DECISIONS.md on what those words mean, and not from the core.
+
+mod differ;
+mod formed;
+mod layout;
+mod read;
+
+pub use differ::difference;
+pub use formed::well_formed;
+pub use layout::{partition_part, session_part, site_part, TABLE_BYTES};
+pub use read::read;
