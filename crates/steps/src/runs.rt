@@ -1,7 +1,7 @@
 // Many events on a table known to be well formed: it stays so, so it is not checked again. The reader gives each event in turn. In order: one piece, and
 // all; the same of a table that is refused. Assumes nothing.
 ghost use mathlib.Core.Path.{_≡_};
-ghost use Prim.Native.Nat.{ℕ, _+_, _*_, _≤_, _<_};
+ghost use Prim.Native.Nat.{ℕ, _+_, _*_, _≤_};
 ghost use mathlib.Core.Bool.{cond};
 ghost use mathlib.Core.List.{List};
 ghost use lib.Dec.{T, eqb};
@@ -26,7 +26,7 @@ pub fn piece(t: &mut [u8], e: &[u8]) -> Answer
 
 // Piece i, and its answer.
 pub fn turn(t: &mut [u8], es: &[u8], b: &mut [u8], i: usize)
-    requires { ⌜ (length (now t) ≡ 57344) × T (wellFormed (now t)) × (32 * i < length (now es)) × (16 * i + 16 ≤ length (now b)) ⌝ }
+    requires { ⌜ (length (now t) ≡ 57344) × T (wellFormed (now t)) × (16 * i + 16 ≤ length (now b)) ⌝ }
     ensures { λ _. ⌜ ran (now (t .exit)) (now (b .exit)) ≡ turned pieceCall i (now (t .entry)) (now (es .entry)) (now (b .entry)) ⌝ }
 {
     let a = piece(t, reader::event_of(es, i));
@@ -35,7 +35,7 @@ pub fn turn(t: &mut [u8], es: &[u8], b: &mut [u8], i: usize)
 
 // The first n pieces.
 pub fn run(t: &mut [u8], es: &[u8], b: &mut [u8], n: usize)
-    requires { ⌜ (length (now t) ≡ 57344) × T (wellFormed (now t)) × (32 * n < length (now es) + 32) × (16 * n ≤ length (now b)) ⌝ }
+    requires { ⌜ (length (now t) ≡ 57344) × T (wellFormed (now t)) × (16 * n ≤ length (now b)) ⌝ }
     ensures { λ _. ⌜ ran (now (t .exit)) (now (b .exit)) ≡ runBy pieceCall n (now (t .entry)) (now (es .entry)) (now (b .entry)) ⌝ }
 {
     let mut i = 0;
@@ -54,7 +54,7 @@ fn number_for(size: usize, number: u8) -> u8
 
 // Piece i of a table that is refused with the number.
 pub fn turn_away(es: &[u8], b: &mut [u8], i: usize, number: u8)
-    requires { ⌜ (32 * i < length (now es)) × (16 * i + 16 ≤ length (now b)) ⌝ }
+    requires { ⌜ 16 * i + 16 ≤ length (now b) ⌝ }
     ensures { λ _. ⌜ ((t : List ℕ) → ran t (now (b .exit)) ≡ turned (turnedAway number) i t (now (es .entry)) (now (b .entry))) ⌝ }
 {
     let e = reader::event_of(es, i);
@@ -64,7 +64,7 @@ pub fn turn_away(es: &[u8], b: &mut [u8], i: usize, number: u8)
 
 // The first n pieces of a table that is refused with the number.
 pub fn turn_all_away(es: &[u8], b: &mut [u8], n: usize, number: u8)
-    requires { ⌜ (32 * n < length (now es) + 32) × (16 * n ≤ length (now b)) ⌝ }
+    requires { ⌜ 16 * n ≤ length (now b) ⌝ }
     ensures { λ _. ⌜ ((t : List ℕ) → ran t (now (b .exit)) ≡ runBy (turnedAway number) n t (now (es .entry)) (now (b .entry))) ⌝ }
 {
     let mut i = 0;

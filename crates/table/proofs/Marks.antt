@@ -1,4 +1,4 @@
--- The keys and marks of a page, in two arrays. In order: an array that is filled from the front; lists of a function's values; the marks put one
+-- The keys and marks of a page, in two arrays. In order: an array that is filled from the front; the marks put one
 -- after the other, as the code counts; the marks that are loaded. Assumes nothing.
 use mathlib.Core.Bool.{Bool, false}
 use mathlib.Core.Path.{_≡_, refl, ap, _∙_}
@@ -15,6 +15,7 @@ use Rattle.codec.specs.Le.{load, put}
 use Rattle.protocol.specs.State.{Mark}
 use Rattle.table.specs.Session.{flag, markAt, putMarks}
 use Rattle.table.specs.Tabulate.{tabulate}
+use Rattle.table.proofs.Tabulate.{tab-ext}
 
 -- what the two arrays say of mark i
 abbrev pub markOf : List ℕ → List Bool → ℕ → Mark
@@ -23,18 +24,6 @@ markOf keys marks i = record { key = getD keys i 0; read = getD marks i false }
 pub filled-more : {A : Type 0} (f : ℕ → A) (e : List A) (i : ℕ) (x d : A) → i < length e → ((k : ℕ) → k < i → getD e k d ≡ f k) → x ≡ f i → (k : ℕ) → k < i + 1 → getD (set e i x) k d ≡ f k
 filled-more f e i x d l h q =
     below-more (λ k. getD (set e i x) k d ≡ f k) i (λ k b. getD-set-other e i k x d (omega arith) ∙ h k b) (getD-set-same e i x d l ∙ q)
-
--- ---- lists of a function's values
-
-pub tabulate-ext {ℓ} : {A : Type ℓ} (n : ℕ) (f g : ℕ → A) → ((i : ℕ) → i < n → f i ≡ g i) → tabulate n f ≡ tabulate n g
-unfolding tabulate
-tabulate-ext zero f g h = refl
-tabulate-ext (suc n) f g h = rw (h 0 (omega arith), tabulate-ext n (λ i. f (suc i)) (λ i. g (suc i)) (λ i b. h (suc i) (omega arith)))
-
-pub length-tabulate {ℓ} : {A : Type ℓ} (n : ℕ) (f : ℕ → A) → length (tabulate n f) ≡ n
-unfolding tabulate
-length-tabulate zero f = refl
-length-tabulate (suc n) f = ap suc (length-tabulate n (λ i. f (suc i)))
 
 -- those from i to n
 abbrev pub fromTo {ℓ} : {A : Type ℓ} → ℕ → ℕ → (ℕ → A) → List A
@@ -45,7 +34,7 @@ fromTo i n f = tabulate (n - i) (λ k. f (i + k))
 pub marks-all : (b : List ℕ) (n : ℕ) (f : ℕ → Mark) → putMarks b 0 (fromTo 0 n f) ≡ putMarks b 0 (tabulate n f)
 marks-all b n f =
     let e : n - 0 ≡ n = omega arith in
-    rw e (ap (putMarks b 0) (tabulate-ext n (λ k. f (0 + k)) f (λ k b. ap f (omega arith))))
+    rw e (ap (putMarks b 0) (tab-ext n (λ k. f (0 + k)) f (λ k b. ap f (omega arith))))
 
 pub marks-none : (b : List ℕ) (i n : ℕ) (f : ℕ → Mark) → n ≤ i → putMarks b i (fromTo i n f) ≡ b
 unfolding tabulate putMarks
@@ -57,11 +46,11 @@ pub marks-step : (b : List ℕ) (i n : ℕ) (f : ℕ → Mark) → i < n → put
 unfolding tabulate putMarks
 marks-step b i n f h =
     let e : n - i ≡ suc (n - suc i) = omega arith in
-    let rest : fromTo (suc i) n f ≡ tabulate (n - suc i) (λ k. f (i + suc k)) = tabulate-ext (n - suc i) _ _ (λ k b. ap f (omega arith)) in
+    let rest : fromTo (suc i) n f ≡ tabulate (n - suc i) (λ k. f (i + suc k)) = tab-ext (n - suc i) _ _ (λ k b. ap f (omega arith)) in
     rw (add-one i, rest, e, add-zero i)
 
 -- ---- the marks that two loaded arrays say
 
 pub marks-loaded : (b keys : List ℕ) (marks : List Bool) (n : ℕ) → n ≤ 8 → ((i : ℕ) → i < 8 → getD keys i 0 ≡ load 1 b (8 + i)) → ((i : ℕ) → i < 8 → getD marks i false ≡ eqb (load 1 b (16 + i)) 1) → tabulate n (markOf keys marks) ≡ tabulate n (markAt b)
 unfolding markAt
-marks-loaded b keys marks n h ks ms = tabulate-ext n _ _ (λ i l. rw (ks i (omega arith), ms i (omega arith)))
+marks-loaded b keys marks n h ks ms = tab-ext n _ _ (λ i l. rw (ks i (omega arith), ms i (omega arith)))

@@ -5,6 +5,7 @@ use mathlib.Core.Path.{_≡_, refl, _∙_}
 use mathlib.Core.List.{List}
 use native.Mathlib.Numerals.{add-one}
 use native.Mathlib.Omega.{arith}
+use borrow.Author.Tests.{eq-eqb, ne-eqb}
 use lib.ListN.{length}
 use Rattle.codec.specs.Part.{Keeps}
 use Rattle.protocol.specs.Record.{Msg}
@@ -12,7 +13,7 @@ use Rattle.table.specs.Parts.{channelOf, onChannel}
 use Rattle.table.specs.Channel.{pushed}
 use Rattle.table.specs.Put.{sentTo}
 use Rattle.table.proofs.Lengths.{length-pushed}
-use Rattle.table.proofs.Beside.{length-onChannel, channel-onChannel}
+use Rattle.table.proofs.Parts.{length-onChannel, channel-onChannel}
 
 pub sent-none : (m p : ℕ) (x : Msg) (site : List ℕ) → sentTo 0 m p x site ≡ site
 unfolding sentTo
@@ -28,10 +29,13 @@ module _ (m p : ℕ) (x : Msg) (site : List ℕ) (l : length site ≡ 13056) (h 
   pub length-sent : (n : ℕ) → n ≤ 3 → length (sentTo n m p x site) ≡ 13056
   unfolding sentTo
   length-sent zero g = l
-  length-sent (suc n) g = length-onChannel (pushed m x) (sentTo n m p x site) p (length-sent n (omega arith)) h n (omega arith) keeps
+  length-sent (suc n) g =
+      let k = length-sent n (omega arith) in
+      length-onChannel (sentTo n m p x site) p n (pushed m x) k h (omega arith) keeps ∙ k
 
   pub channel-sent : (n e : ℕ) → n ≤ e → e < 3 → channelOf (sentTo n m p x site) p e ≡ channelOf site p e
   unfolding sentTo
   channel-sent zero e b g = refl
   channel-sent (suc n) e b g =
-      channel-onChannel (pushed m x) (sentTo n m p x site) p (length-sent n (omega arith)) h n e (omega arith) g keeps ∙ channel-sent n e (omega arith) g
+      channel-onChannel (sentTo n m p x site) p n (pushed m x) (length-sent n (omega arith)) h (omega arith) keeps p e
+      ∙ rw (eq-eqb p p refl, ne-eqb e n (omega arith)) (channel-sent n e (omega arith) g)

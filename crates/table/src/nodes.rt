@@ -1,6 +1,6 @@
 // A node's 1,856 bytes: its clock, what it has heard and its records. In order: reading, one more record, and the changes. Assumes nothing.
 ghost use mathlib.Core.Path.{_≡_};
-ghost use Prim.Native.Nat.{_+_, _≤_, _<_, max};
+ghost use Prim.Native.Nat.{_+_, _≤_, _<_};
 ghost use lib.ListN.{length};
 ghost use Rattle.codec.specs.Le.{put};
 ghost use Rattle.vector.specs.Entries.{entries};
@@ -81,13 +81,6 @@ pub fn publish(n: &mut [u8], m: usize, x: Letter)
     store(n, x);
 }
 
-// The later of two stamps.
-fn later(a: u64, b: u64) -> u64
-    ensures { λ r. ⌜ r ≡ max a b ⌝ }
-{
-    if a < b { b } else { a }
-}
-
 // The message is of another site, i.
 pub fn receive(n: &mut [u8], i: usize, x: Letter)
     requires { ⌜ (length (now n) ≡ 1856) × (i < 4) × Room (asMessage x) (now n) ⌝ }
@@ -95,6 +88,6 @@ pub fn receive(n: &mut [u8], i: usize, x: Letter)
 {
     let at = 8 + 8 * i;
     let heard = codec::load_u64(n, at);
-    codec::store_u64(n, at, later(heard, letters::stamp(x)));
+    codec::store_u64(n, at, vector::later(heard, letters::stamp(x)));
     store(n, x);
 }

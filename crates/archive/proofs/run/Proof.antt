@@ -61,7 +61,7 @@ returns-2 c =
 run-requires : tie.Need-run-requires
 run-requires c κs =
     let e = c .before .before in
-    (search needs, is-yes _ (sym (e .before .well-formed .ensures) ∙ not-false _ (e .if2 .left)), omega arith, omega arith)
+    (search needs, is-yes _ (sym (e .before .well-formed .ensures) ∙ not-false _ (e .if2 .left)), omega arith)
 
 same-length-4 : tie.Need-same-length-4
 same-length-4 c = search needs

@@ -22,7 +22,7 @@ take-off-requires c κs =
     let d = k .before .before in
     let s = d .before .before in
     let a = s .args in
-    let same = site-received (a .i) (asMessage (a .x)) (a .t .now) (a .m) (a .p) (s .pre .0) (omega arith) (omega arith) (omega arith) (s .pre .4) in
+    let same = site-received (a .i) (asMessage (a .x)) (a .t .now) (a .m) (a .p) (s .pre .0) (omega arith) (omega arith) (s .pre .4) in
     (omega arith, omega arith, omega arith, omega arith, rw (k .take-in .ensures, same, d .place-of .ensures .0) (s .pre .6))
 
 same-length : tie.Need-same-length

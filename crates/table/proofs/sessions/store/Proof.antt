@@ -3,7 +3,7 @@ use mathlib.Core.Path.{_∙_}
 use borrow.Author.Needs.{needs}
 use Rattle.table.specs.Values.{asSession}
 use Rattle.table.specs.Session.{putSession}
-use Rattle.table.proofs.Marks.{length-tabulate}
+use Rattle.table.proofs.Tabulate.{tab-length}
 use Rattle.table.proofs.sessions.store.Statement.{statement}
 use Rattle.table.proofs.sessions.store.Tie as tie
 
@@ -33,7 +33,7 @@ returns c =
     let k3 = k4 .before .before .before .before in
     let k2 = k3 .before .before .before .before in
     k5 .store-marks .ensures
-    ∙ rw (k4 .store-vector3 .ensures, k3 .store-vector2 .ensures, k2 .store-vector .ensures, k2 .before .before .before .before .store-head .ensures, length-tabulate)
+    ∙ rw (k4 .store-vector3 .ensures, k3 .store-vector2 .ensures, k2 .store-vector .ensures, k2 .before .before .before .before .store-head .ensures, tab-length)
 
 pub store-spec : {M : Type 1} → statement M
 store-spec =
