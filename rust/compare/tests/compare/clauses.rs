@@ -109,8 +109,12 @@ fn nodes() {
     }
     let (node, _) = places(0, 0);
     edge("as many records as there are", node + 40, 0, 33);
+    // A record that would be lawful at a site that exists.
+    let record = full().bytes()[node + 64..node + 112].to_vec();
     for (site, partition) in [(3, 0), (0, 3), (3, 3)] {
-        edge("an absent node's records", places(site, partition).0 + 40, 0, 1);
+        let absent = places(site, partition).0;
+        expect(true, "an absent node's slot", &[(absent + 64, &record)]);
+        expect(false, "an absent node's record", &[(absent + 40, &[1]), (absent + 64, &record)]);
     }
     expect(true, "room", &[(node + 41, &[255; 23]), (node + 112, &[255; 8])]);
     expect(true, "a free slot", &[(node + 120, &[255; 48])]);

@@ -14,7 +14,6 @@ use std::env;
 use std::process::ExitCode;
 
 use figures::Figures;
-use rows::Row;
 use scene::Scene;
 
 /// How much is measured.
@@ -55,6 +54,5 @@ fn main() -> ExitCode {
 fn measure(scene: Scene, effort: &Effort) -> Figures {
     println!("{scene}");
     rows::agree(&scene);
-    let mut rows: Vec<Row> = rows::all(&scene);
-    Figures::new(scene.name, rounds::medians(&mut rows, effort.rounds), effort.events)
+    Figures::new(scene.name, rounds::medians(&scene, effort.rounds), effort.events)
 }

@@ -13,10 +13,11 @@ use crate::scene::Scene;
 /// else the machine does.
 const STRETCH: usize = 25;
 /// The events of one call of `run`, which checks the table once for all of them.
-const RUN_STRETCH: usize = 2_500;
+pub const RUN_STRETCH: usize = 2_500;
 
-/// One way through the events of a scene; gives the time of each stretch.
-pub type Row<'a> = Box<dyn FnMut() -> Vec<Duration> + 'a>;
+/// One way through the events of a scene: takes the next `RUN_STRETCH` of them and
+/// gives the time of each stretch.
+pub type Row = Box<dyn FnMut(&[u8]) -> Vec<Duration>>;
 
 /// The core's `step`, which checks the table each time.
 pub const STEP: usize = 0;
@@ -41,15 +42,15 @@ pub const NAMES: [&str; 6] = [
     "plain: the check alone",
 ];
 
-/// All rows, in the order of their names.
-pub fn all(scene: &Scene) -> Vec<Row<'_>> {
-    vec![
-        Box::new(|| stretches(scene, STRETCH, core(scene), step, |_, _| ())),
-        Box::new(|| stretches(scene, STRETCH, both(scene), plain_step, follow)),
-        Box::new(|| stretches(scene, RUN_STRETCH, core(scene), run, |_, _| ())),
-        Box::new(|| stretches(scene, RUN_STRETCH, both(scene), run_structs, |_, _| ())),
-        Box::new(|| stretches(scene, STRETCH, both(scene), check, follow)),
-        Box::new(|| stretches(scene, STRETCH, both(scene), plain_check, follow)),
+/// All rows at a scene's start, in the order of their names.
+pub fn all(scene: &Scene) -> [Row; 6] {
+    [
+        row(STRETCH, core(scene), step, |_, _| ()),
+        row(STRETCH, both(scene), plain_step, follow),
+        row(RUN_STRETCH, core(scene), run, |_, _| ()),
+        row(RUN_STRETCH, both(scene), run_structs, |_, _| ()),
+        row(STRETCH, both(scene), check, follow),
+        row(STRETCH, both(scene), plain_check, follow),
     ]
 }
 
@@ -125,21 +126,20 @@ fn each(events: &[u8], mut step: impl FnMut(&[u8]) -> u8) -> u64 {
     events.chunks_exact(EVENT_BYTES).map(|event| u64::from(step(event))).sum()
 }
 
-/// Takes the events in stretches and times each; `after` isn't timed.
-fn stretches<S>(
-    scene: &Scene,
+/// Takes events in stretches of a length and times each; `after` isn't timed.
+fn row<S: 'static>(
     length: usize,
     mut state: S,
     work: fn(&mut S, &[u8], &mut [u8]) -> u64,
     after: fn(&mut S, &[u8]),
-) -> Vec<Duration> {
+) -> Row {
     let mut answers = vec![0; length * ANSWER_BYTES];
-    let time = |events: &[u8]| {
+    let mut time = move |events: &[u8]| {
         let start = Instant::now();
         black_box(work(&mut state, events, &mut answers));
         let took = start.elapsed();
         after(&mut state, events);
         took
     };
-    scene.events.chunks(length * EVENT_BYTES).map(time).collect()
+    Box::new(move |events| events.chunks(length * EVENT_BYTES).map(&mut time).collect())
 }
