@@ -13,14 +13,15 @@ pub fn messages_formed(b: &[u8], sites: u8, parts: u8, i: u8, p: u8, front: u8, 
     requires { ⌜ (length (now b) ≡ 464) × (0 < parts) ⌝ }
     ensures { λ r. ⌜ r ≡ allBelow wait (λ k. messageFormed (record { sites = sites; parts = parts }) i p (now (b .entry)) (ringAt front k)) ⌝ }
 {
-    let mut all = true;
     let mut k = 0;
     while k < wait {
         let at = 16 + 56 * ((front as usize + k as usize) % 8);
-        all = all & letters::message_formed(b, at, sites, parts, i, p);
+        if !letters::message_formed(b, at, sites, parts, i, p) {
+            return false;
+        }
         k += 1;
     }
-    all
+    true
 }
 
 // The channel from site i at partition p to the place d among the other sites.

@@ -1,29 +1,41 @@
 // "each record and message in use has a lawful kind, its channel's source (for a message) or an existing source (for a record), and, save in a
-// heartbeat with its zeros, a key of its partition, and level and quality in range". In order: a record by value, a record in bytes,
+// heartbeat with its zeros, a key of its partition, and level and quality in range". In order: a record, a stored one,
 // an update, a heartbeat, a message. Assumes nothing.
 ghost use mathlib.Core.Path.{_≡_};
 ghost use Prim.Native.Nat.{_+_, _≤_, _<_};
 ghost use lib.ListN.{length};
 ghost use Rattle.protocol.specs.Record.{Update};
 ghost use Rattle.table.specs.Letter.{recordAt};
-ghost use Rattle.table.specs.Values.{asRecord};
 ghost use Rattle.lawful.specs.Values.{recordLawful, messageLawful};
 ghost use Rattle.lawful.specs.WellFormed.{recordFormed, beatFormed, messageFormed};
 use crate::vectors;
 use protocol::limits;
-use table::Reading;
 
-// A record of partition p.
-pub fn record_lawful(x: Reading, sites: u8, parts: u8, p: u8) -> bool
-    requires { ⌜ 0 < parts ⌝ }
-    ensures { λ r. ⌜ r ≡ recordLawful (record { sites = sites; parts = parts }) p (asRecord x) ⌝ }
+// The record at `at`, of partition p. Each field is loaded where it is tested, so that a lawful one costs one comparison.
+pub fn record_lawful(b: &[u8], at: usize, sites: u8, parts: u8, p: u8) -> bool
+    requires { ⌜ (at + 48 ≤ length (now b)) × (0 < parts) ⌝ }
+    ensures { λ r. ⌜ r ≡ recordLawful (record { sites = sites; parts = parts }) p (recordAt (now (b .entry)) at) ⌝ }
 {
-    let carried = x.carried;
-    ((x.key < 64) & (limits::partition_of(x.key, parts) == p))
-        & ((x.source < sites)
-            & ((x.quality < 3)
-                & (limits::level_lawful(x.level)
-                    & (vectors::time_lawful(x.stamp) & vectors::vector_lawful(carried, sites)))))
+    let key = codec::load_u8(b, at);
+    if 64 <= key {
+        return false;
+    }
+    if limits::partition_of(key, parts) != p {
+        return false;
+    }
+    if sites <= codec::load_u8(b, at + 1) {
+        return false;
+    }
+    if 3 <= codec::load_u8(b, at + 2) {
+        return false;
+    }
+    if !limits::level_lawful(codec::load_level(b, at + 4)) {
+        return false;
+    }
+    if !vectors::time_lawful(codec::load_u64(b, at + 8)) {
+        return false;
+    }
+    vectors::vector_formed(b, at + 16, sites)
 }
 
 // "A stored record has kind 1"
@@ -31,8 +43,10 @@ pub fn record_formed(n: &[u8], at: usize, sites: u8, parts: u8, p: u8) -> bool
     requires { ⌜ (at + 48 ≤ length (now n)) × (0 < parts) ⌝ }
     ensures { λ r. ⌜ r ≡ recordFormed (record { sites = sites; parts = parts }) p (now (n .entry)) at ⌝ }
 {
-    let kind = codec::load_u8(n, at + 3);
-    (kind == 1) & record_lawful(table::letters::load_record(n, at), sites, parts, p)
+    if codec::load_u8(n, at + 3) != 1 {
+        return false;
+    }
+    record_lawful(n, at, sites, parts, p)
 }
 
 // What stands at `at`, as an update of site i.
@@ -40,11 +54,14 @@ pub fn update_formed(b: &[u8], at: usize, sites: u8, parts: u8, i: u8, p: u8) ->
     requires { ⌜ (at + 48 ≤ length (now b)) × (0 < parts) ⌝ }
     ensures { λ r. ⌜ r ≡ messageLawful (record { sites = sites; parts = parts }) i p (Update (recordAt (now (b .entry)) at)) ⌝ }
 {
-    let x = table::letters::load_record(b, at);
-    (x.source == i) & record_lawful(x, sites, parts, p)
+    if codec::load_u8(b, at + 1) != i {
+        return false;
+    }
+    record_lawful(b, at, sites, parts, p)
 }
 
-// "A heartbeat has key, quality, level and vector zero"
+// "A heartbeat has key, quality, level and vector zero". Wide numbers are compared with the key, which is 0: with a plain 0 they would be
+// compared byte by byte.
 pub fn beat_formed(b: &[u8], at: usize, i: u8) -> bool
     requires { ⌜ at + 48 ≤ length (now b) ⌝ }
     ensures { λ r. ⌜ r ≡ beatFormed i (now (b .entry)) at ⌝ }
@@ -54,7 +71,9 @@ pub fn beat_formed(b: &[u8], at: usize, i: u8) -> bool
     let quality = codec::load_u8(b, at + 2);
     let level = codec::load_u32(b, at + 4);
     (key == 0)
-        & ((source == i) & ((quality == 0) & ((level == 0) & vectors::vector_zero(b, at + 16))))
+        & ((source == i)
+            & ((quality == 0)
+                & ((level <= key as u32) & vectors::none_above(b, at + 16, key as u64))))
 }
 
 // A message of the channel from site i at partition p: kind 1 is an update, 2 a heartbeat.

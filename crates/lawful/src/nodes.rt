@@ -22,13 +22,14 @@ pub fn records_formed(n: &[u8], sites: u8, parts: u8, p: u8, held: u8) -> bool
     requires { ⌜ (length (now n) ≡ 1856) × (0 < parts) × (held ≤ 32) ⌝ }
     ensures { λ r. ⌜ r ≡ allBelow held (λ k. recordFormed (record { sites = sites; parts = parts }) p (now (n .entry)) (slotAt k)) ⌝ }
 {
-    let mut all = true;
     let mut k = 0;
     while k < held {
-        all = all & letters::record_formed(n, 64 + 56 * (k as usize), sites, parts, p);
+        if !letters::record_formed(n, 64 + 56 * (k as usize), sites, parts, p) {
+            return false;
+        }
         k += 1;
     }
-    all
+    true
 }
 
 // The node of site m and partition p.

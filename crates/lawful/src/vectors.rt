@@ -1,12 +1,12 @@
-// "clocks, vectors and stamps are within the time limit and entries of absent sites are 0". In order: a time, an entry and its limit, a vector by value, a vector
-// in bytes, and the vector zero in bytes. Assumes nothing.
+// "clocks, vectors and stamps are within the time limit and entries of absent sites are 0". In order: a time, an entry and its limit, a vector,
+// and a vector without an entry above a number. Assumes nothing.
 ghost use mathlib.Core.Path.{_≡_};
 ghost use mathlib.Core.Bool.{cond};
 ghost use Prim.Native.Nat.{ℕ, _+_, _≤_};
-ghost use lib.Dec.{ltb, eqb};
+ghost use lib.Dec.{ltb, leb, eqb};
 ghost use lib.ListN.{length};
 ghost use Rattle.vector.specs.Vec.{width, allBelow};
-ghost use Rattle.vector.specs.Entries.{entry, loadVec};
+ghost use Rattle.vector.specs.Entries.{loadVec};
 ghost use Rattle.lawful.specs.Values.{timeLawful, vecLawful};
 use vector::Vector;
 
@@ -33,38 +33,32 @@ pub fn entry_lawful(x: u64, i: usize, sites: u8) -> bool
     x < entry_limit(i, sites)
 }
 
-// Of the setting only the number of sites is asked.
-pub fn vector_lawful(v: Vector, sites: u8) -> bool
-    ensures { λ r. ⌜ ((parts : ℕ) → r ≡ vecLawful (record { sites = sites; parts = parts }) (entry (v .e))) ⌝ }
-{
-    let e = v.e;
-    let mut all = true;
-    let mut i = 0;
-    while i < Vector::WIDTH {
-        all = all & entry_lawful(e[i], i, sites);
-        i += 1;
-    }
-    all
-}
-
-// The vector at `at`.
+// The vector at `at`. Of the setting only the number of sites is asked.
 pub fn vector_formed(b: &[u8], at: usize, sites: u8) -> bool
     requires { ⌜ at + 32 ≤ length (now b) ⌝ }
     ensures { λ r. ⌜ ((parts : ℕ) → r ≡ vecLawful (record { sites = sites; parts = parts }) (loadVec (now (b .entry)) at)) ⌝ }
 {
-    vector_lawful(vector::load_vector(b, at), sites)
-}
-
-// The vector at `at` is zero.
-pub fn vector_zero(b: &[u8], at: usize) -> bool
-    requires { ⌜ at + 32 ≤ length (now b) ⌝ }
-    ensures { λ r. ⌜ r ≡ allBelow width (λ i. eqb (loadVec (now (b .entry)) at i) 0) ⌝ }
-{
-    let mut all = true;
     let mut i = 0;
     while i < Vector::WIDTH {
-        all = all & (codec::load_u64(b, at + 8 * i) == 0);
+        if !entry_lawful(codec::load_u64(b, at + 8 * i), i, sites) {
+            return false;
+        }
         i += 1;
     }
-    all
+    true
+}
+
+// No entry of the vector at `at` is above x.
+pub fn none_above(b: &[u8], at: usize, x: u64) -> bool
+    requires { ⌜ at + 32 ≤ length (now b) ⌝ }
+    ensures { λ r. ⌜ r ≡ allBelow width (λ i. leb (loadVec (now (b .entry)) at i) x) ⌝ }
+{
+    let mut i = 0;
+    while i < Vector::WIDTH {
+        if x < codec::load_u64(b, at + 8 * i) {
+            return false;
+        }
+        i += 1;
+    }
+    true
 }

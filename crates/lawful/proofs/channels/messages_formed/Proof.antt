@@ -1,9 +1,11 @@
--- `lawful::channels::messages_formed` meets its contract: `all` says it of the first k messages. Assumes nothing.
-use mathlib.Core.Path.{_≡_, sym}
+-- `lawful::channels::messages_formed` meets its contract: the first k messages are lawful. Assumes nothing.
+use mathlib.Core.Path.{_≡_, sym, _∙_}
+use mathlib.Core.Bool.{true}
 use Prim.Native.Nat.{_-_, _≤_}
 use native.Mathlib.Omega.{arith}
+use borrow.Author.Tests.{not-true, not-false}
 use Rattle.vector.specs.Vec.{allBelow}
-use Rattle.vector.proofs.Entries.{allBelow-none, allBelow-step}
+use Rattle.vector.proofs.Entries.{allBelow-none, allBelow-more, allBelow-fails}
 use Rattle.table.specs.Channel.{ringAt}
 use Rattle.lawful.specs.WellFormed.{messageFormed}
 use borrow.Author.Needs.{needs}
@@ -11,13 +13,13 @@ use Rattle.lawful.proofs.channels.messages_formed.Statement.{statement}
 use Rattle.lawful.proofs.channels.messages_formed.Tie as tie
 
 abbrev Inv-loop : tie.InvT-loop
-Inv-loop b sites parts i p front wait all₀ k₀ all k = (k ≤ wait) × (all ≡ allBelow k (λ j. messageFormed (record { sites = sites; parts = parts }) i p b (ringAt front j)))
+Inv-loop b sites parts i p front wait k₀ k = (k ≤ wait) × (allBelow k (λ j. messageFormed (record { sites = sites; parts = parts }) i p b (ringAt front j)) ≡ true)
 
 abbrev μ-loop : tie.MeasureT-loop
-μ-loop b sites parts i p front wait all₀ k₀ all k = wait - k
+μ-loop b sites parts i p front wait k₀ k = wait - k
 
 loop-holds : tie.Need-loop-holds Inv-loop μ-loop
-loop-holds c = (omega arith, sym (allBelow-none _))
+loop-holds c = (omega arith, allBelow-none _)
 
 cast-at : tie.Need-cast-at Inv-loop μ-loop
 cast-at c = search needs
@@ -34,6 +36,12 @@ add-at-2 c = search needs
 message-formed-requires : tie.Need-message-formed-requires Inv-loop μ-loop
 message-formed-requires c κs = search needs
 
+returns : tie.Need-returns Inv-loop μ-loop
+returns c =
+    let l = c .before .before .before in
+    let no = sym (c .before .message-formed .ensures) ∙ not-true _ (c .if1 .taken) in
+    sym (allBelow-fails (l .before .before .args .wait) _ (l .loop .k) (omega arith) no)
+
 add-k : tie.Need-add-k Inv-loop μ-loop
 add-k c = search needs
 
@@ -42,14 +50,15 @@ loop-less c = search needs
 
 loop-again : tie.Need-loop-again Inv-loop μ-loop
 loop-again c =
-    let l = c .before .before in
-    (omega arith, rw (l .loop .inv .1, c .message-formed .ensures) (sym (allBelow-step (l .loop .k) _)))
+    let l = c .before .before .before in
+    let yes = sym (c .before .message-formed .ensures) ∙ not-false _ (c .if1 .left) in
+    (omega arith, allBelow-more (l .loop .k) _ (l .loop .inv .1) yes)
 
-returns : tie.Need-returns Inv-loop μ-loop
-returns c =
+returns-2 : tie.Need-returns-2 Inv-loop μ-loop
+returns-2 c =
     let l = c .before in
     let e : l .loop .k ≡ l .before .before .args .wait = omega arith in
-    rw e at (l .loop .inv .1)
+    sym (rw e at (l .loop .inv .1))
 
 pub messages-formed-spec : {M : Type 1} → statement M
 messages-formed-spec =
@@ -63,7 +72,8 @@ messages-formed-spec =
     mul-at
     add-at-2
     message-formed-requires
+    returns
     add-k
     loop-less
     loop-again
-    returns)
+    returns-2)

@@ -1,8 +1,31 @@
--- `lawful::letters::beat_formed` meets its contract, by what its callees ensure. Assumes nothing.
+-- `lawful::letters::beat_formed` meets its contract: behind a key of 0 the comparisons with it are those with 0. Assumes nothing.
+use mathlib.Core.Path.{_≡_, refl, sym, _∙_}
+use mathlib.Core.Bool.{Bool, _&&_}
+use Prim.Native.Nat.{ℕ, zero, suc, _+_}
+use native.Mathlib.Decide.{ℕ-discrete}
+use native.Mathlib.Omega.{arith}
+use borrow.Author.Tests.{lt-leb, ne-eqb}
+use lib.Dec.{leb, eqb}
+use Rattle.codec.specs.Le.{load}
+use Rattle.vector.specs.Vec.{width, allBelow}
+use Rattle.vector.specs.Entries.{loadVec}
+use Rattle.vector.proofs.Entries.{allBelow-ext}
 use Rattle.lawful.specs.WellFormed.{beatFormed}
 use borrow.Author.Needs.{needs}
 use Rattle.lawful.proofs.letters.beat_formed.Statement.{statement}
 use Rattle.lawful.proofs.letters.beat_formed.Tie as tie
+
+leb-zero : (n : ℕ) → leb n 0 ≡ eqb n 0
+leb-zero zero = refl
+leb-zero (suc n) = lt-leb (suc n) 0 (omega arith) ∙ sym (ne-eqb (suc n) 0 (omega arith))
+
+-- behind a key of 0, at most the key is 0
+with-key : (key level : ℕ) (v : ℕ → ℕ) (s q : Bool) → (eqb key 0 && (s && (q && (leb level key && allBelow width (λ e. leb (v e) key))))) ≡ (eqb key 0 && (s && (q && (eqb level 0 && allBelow width (λ e. eqb (v e) 0)))))
+with-key key level v s q = go (ℕ-discrete key 0)
+  where
+    go : Dec (key ≡ 0) → (eqb key 0 && (s && (q && (leb level key && allBelow width (λ e. leb (v e) key))))) ≡ (eqb key 0 && (s && (q && (eqb level 0 && allBelow width (λ e. eqb (v e) 0)))))
+    go (yes z) = rw (z, leb-zero level, allBelow-ext width (λ e. leb (v e) 0) (λ e. eqb (v e) 0) (λ e b. leb-zero (v e)))
+    go (no d) = rw (ne-eqb key 0 d)
 
 load-u8-requires : tie.Need-load-u8-requires
 load-u8-requires c κs = search needs
@@ -25,15 +48,27 @@ add-load-u32 c = search needs
 load-u32-requires : tie.Need-load-u32-requires
 load-u32-requires c κs = search needs
 
-add-vector-zero : tie.Need-add-vector-zero
-add-vector-zero c = search needs
+cast-result : tie.Need-cast-result
+cast-result c = search needs
 
-vector-zero-requires : tie.Need-vector-zero-requires
-vector-zero-requires c κs = search needs
+add-none-above : tie.Need-add-none-above
+add-none-above c = search needs
+
+cast-none-above : tie.Need-cast-none-above
+cast-none-above c = search needs
+
+none-above-requires : tie.Need-none-above-requires
+none-above-requires c κs = search needs
 
 returns : tie.Need-returns
 unfolding beatFormed
-returns c = rw (c .vector-zero .ensures, c .before .load-u32 .ensures, c .before .before .load-u83 .ensures, c .before .before .before .load-u82 .ensures, c .before .before .before .before .load-u8 .ensures)
+returns c =
+    let key = c .before .before .before .before .load-u8 in
+    let a = c .before .before .before .before .before .before .args in
+    let b = a .b .now in
+    rw
+    (c .none-above .ensures, c .before .load-u32 .ensures, c .before .before .load-u83 .ensures, c .before .before .before .load-u82 .ensures, key .ensures)
+    (with-key (load 1 b (a .at)) (load 4 b (a .at + 4)) (loadVec b (a .at + 16)) (eqb (load 1 b (a .at + 1)) (a .i)) (eqb (load 1 b (a .at + 2)) 0))
 
 pub beat-formed-spec : {M : Type 1} → statement M
 beat-formed-spec =
@@ -46,6 +81,8 @@ beat-formed-spec =
     load-u8-requires-3
     add-load-u32
     load-u32-requires
-    add-vector-zero
-    vector-zero-requires
+    cast-result
+    add-none-above
+    cast-none-above
+    none-above-requires
     returns)

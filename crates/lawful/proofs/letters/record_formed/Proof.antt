@@ -1,4 +1,6 @@
--- `lawful::letters::record_formed` meets its contract, by what its callees ensure. Assumes nothing.
+-- `lawful::letters::record_formed` meets its contract, by the kind that stands there. Assumes nothing.
+use mathlib.Core.Path.{sym, _∙_}
+use borrow.Author.Tests.{eq-eqb, ne-eqb}
 use Rattle.lawful.specs.WellFormed.{recordFormed}
 use borrow.Author.Needs.{needs}
 use Rattle.lawful.proofs.letters.record_formed.Statement.{statement}
@@ -10,17 +12,19 @@ add-load-u8 c = search needs
 load-u8-requires : tie.Need-load-u8-requires
 load-u8-requires c κs = search needs
 
-load-record-requires : tie.Need-load-record-requires
-load-record-requires c κs = search needs
+returns : tie.Need-returns
+unfolding recordFormed
+returns c = rw (ne-eqb _ 1 (λ e. c .if1 .taken (c .before .load-u8 .ensures ∙ e)))
 
 record-lawful-requires : tie.Need-record-lawful-requires
 record-lawful-requires c κs = search needs
 
-returns : tie.Need-returns
+returns-2 : tie.Need-returns-2
 unfolding recordFormed
-returns c = rw (c .record-lawful .ensures, c .before .load-record .ensures, c .before .before .load-u8 .ensures)
+returns-2 c =
+    let k = c .before in
+    rw (eq-eqb _ 1 (sym (k .before .load-u8 .ensures) ∙ k .if1 .left)) (c .record-lawful .ensures)
 
 pub record-formed-spec : {M : Type 1} → statement M
 record-formed-spec =
-    tie.close
-    (tie.spec add-load-u8 load-u8-requires load-record-requires record-lawful-requires returns)
+    tie.close (tie.spec add-load-u8 load-u8-requires returns record-lawful-requires returns-2)

@@ -1,19 +1,31 @@
--- `lawful::letters::update_formed` meets its contract: the source too is that of the record. Assumes nothing.
-use Rattle.table.specs.Values.{asRecord}
+-- `lawful::letters::update_formed` meets its contract, by the source that stands there. Assumes nothing.
+use mathlib.Core.Path.{sym, _∙_}
+use borrow.Author.Tests.{eq-eqb, ne-eqb}
+use Rattle.table.specs.Letter.{recordAt}
 use Rattle.lawful.specs.Values.{messageLawful}
 use borrow.Author.Needs.{needs}
 use Rattle.lawful.proofs.letters.update_formed.Statement.{statement}
 use Rattle.lawful.proofs.letters.update_formed.Tie as tie
 
-load-record-requires : tie.Need-load-record-requires
-load-record-requires c κs = search needs
+add-load-u8 : tie.Need-add-load-u8
+add-load-u8 c = search needs
+
+load-u8-requires : tie.Need-load-u8-requires
+load-u8-requires c κs = search needs
+
+returns : tie.Need-returns
+unfolding messageLawful recordAt
+returns c = rw (ne-eqb _ (c .before .before .before .args .i) (λ e. c .if1 .taken (c .before .load-u8 .ensures ∙ e)))
 
 record-lawful-requires : tie.Need-record-lawful-requires
 record-lawful-requires c κs = search needs
 
-returns : tie.Need-returns
-unfolding messageLawful asRecord
-returns c = rw (c .record-lawful .ensures, ← c .before .before .load-record .ensures)
+returns-2 : tie.Need-returns-2
+unfolding messageLawful recordAt
+returns-2 c =
+    let k = c .before in
+    rw (eq-eqb _ (k .before .before .before .args .i) (sym (k .before .load-u8 .ensures) ∙ k .if1 .left)) (c .record-lawful .ensures)
 
 pub update-formed-spec : {M : Type 1} → statement M
-update-formed-spec = tie.close (tie.spec load-record-requires record-lawful-requires returns)
+update-formed-spec =
+    tie.close (tie.spec add-load-u8 load-u8-requires returns record-lawful-requires returns-2)

@@ -1,9 +1,11 @@
--- `lawful::nodes::records_formed` meets its contract: `all` says it of the first k records. Assumes nothing.
-use mathlib.Core.Path.{_≡_, sym}
+-- `lawful::nodes::records_formed` meets its contract: the first k records are lawful. Assumes nothing.
+use mathlib.Core.Path.{_≡_, sym, _∙_}
+use mathlib.Core.Bool.{true}
 use Prim.Native.Nat.{_-_, _≤_}
 use native.Mathlib.Omega.{arith}
+use borrow.Author.Tests.{not-true, not-false}
 use Rattle.vector.specs.Vec.{allBelow}
-use Rattle.vector.proofs.Entries.{allBelow-none, allBelow-step}
+use Rattle.vector.proofs.Entries.{allBelow-none, allBelow-more, allBelow-fails}
 use Rattle.table.specs.Node.{slotAt}
 use Rattle.lawful.specs.WellFormed.{recordFormed}
 use borrow.Author.Needs.{needs}
@@ -11,13 +13,13 @@ use Rattle.lawful.proofs.nodes.records_formed.Statement.{statement}
 use Rattle.lawful.proofs.nodes.records_formed.Tie as tie
 
 abbrev Inv-loop : tie.InvT-loop
-Inv-loop n sites parts p held all₀ k₀ all k = (k ≤ held) × (all ≡ allBelow k (λ j. recordFormed (record { sites = sites; parts = parts }) p n (slotAt j)))
+Inv-loop n sites parts p held k₀ k = (k ≤ held) × (allBelow k (λ j. recordFormed (record { sites = sites; parts = parts }) p n (slotAt j)) ≡ true)
 
 abbrev μ-loop : tie.MeasureT-loop
-μ-loop n sites parts p held all₀ k₀ all k = held - k
+μ-loop n sites parts p held k₀ k = held - k
 
 loop-holds : tie.Need-loop-holds Inv-loop μ-loop
-loop-holds c = (omega arith, sym (allBelow-none _))
+loop-holds c = (omega arith, allBelow-none _)
 
 cast-record-formed : tie.Need-cast-record-formed Inv-loop μ-loop
 cast-record-formed c = search needs
@@ -31,6 +33,12 @@ add-record-formed c = search needs
 record-formed-requires : tie.Need-record-formed-requires Inv-loop μ-loop
 record-formed-requires c κs = search needs
 
+returns : tie.Need-returns Inv-loop μ-loop
+returns c =
+    let l = c .before .before .before in
+    let no = sym (c .before .record-formed .ensures) ∙ not-true _ (c .if1 .taken) in
+    sym (allBelow-fails (l .before .before .args .held) _ (l .loop .k) (omega arith) no)
+
 add-k : tie.Need-add-k Inv-loop μ-loop
 add-k c = search needs
 
@@ -39,14 +47,15 @@ loop-less c = search needs
 
 loop-again : tie.Need-loop-again Inv-loop μ-loop
 loop-again c =
-    let l = c .before .before in
-    (omega arith, rw (l .loop .inv .1, c .record-formed .ensures) (sym (allBelow-step (l .loop .k) _)))
+    let l = c .before .before .before in
+    let yes = sym (c .before .record-formed .ensures) ∙ not-false _ (c .if1 .left) in
+    (omega arith, allBelow-more (l .loop .k) _ (l .loop .inv .1) yes)
 
-returns : tie.Need-returns Inv-loop μ-loop
-returns c =
+returns-2 : tie.Need-returns-2 Inv-loop μ-loop
+returns-2 c =
     let l = c .before in
     let e : l .loop .k ≡ l .before .before .args .held = omega arith in
-    rw e at (l .loop .inv .1)
+    sym (rw e at (l .loop .inv .1))
 
 pub records-formed-spec : {M : Type 1} → statement M
 records-formed-spec =
@@ -59,7 +68,8 @@ records-formed-spec =
     mul-record-formed
     add-record-formed
     record-formed-requires
+    returns
     add-k
     loop-less
     loop-again
-    returns)
+    returns-2)
