@@ -1,13 +1,15 @@
 -- The tests of page keys with one key more behind: all in range, k among them, all different. In order: of any list; of a function's first n
--- values, as a loop extends them; and a session's page by its bytes. Assumes nothing.
+-- values, as tests of every number below n; and a session's page by its bytes. Assumes nothing.
 use mathlib.Core.Path.{_≡_, refl, sym, ap, _∙_}
 use mathlib.Core.Bool.{Bool, true, false, not, _&&_, _||_, and-true, and-assoc, or-false, or-assoc}
 use mathlib.Core.List.{List, [], _∷_, _++_}
 use Prim.Native.Nat.{ℕ, zero, suc, _+_}
 use native.Mathlib.Decide.{ℕ-discrete}
+use native.Mathlib.Numerals.{add-one}
 use borrow.Author.Tests.{eq-eqb, ne-eqb}
 use lib.Dec.{leb, ltb, eqb}
 use Rattle.codec.specs.Le.{load}
+use Rattle.vector.specs.Vec.{allBelow}
 use Rattle.vector.specs.Entries.{loadVec}
 use Rattle.protocol.specs.Record.{Setting}
 use Rattle.protocol.specs.State.{Mark}
@@ -49,32 +51,36 @@ distinct-snoc [] k = refl
 distinct-snoc (j ∷ ks) k =
     rw (holdsKey-snoc j ks k, distinct-snoc ks k, eqb-sym k j) (either-end (holdsKey j ks) (eqb j k) (holdsKey k ks) (distinct ks))
 
+neither : (a b : Bool) → not (a || b) ≡ (not a && not b)
+neither true b = refl
+neither false b = refl
+
 -- ---- a function's first values
 
 module _ (f : ℕ → ℕ) where
   tabulate-more : (n : ℕ) → tabulate (n + 1) f ≡ tabulate n f ++ (f n ∷ [])
   tabulate-more n = tab-more n f f (f n) (λ i l. refl) refl
 
-  pub keysLawful-none : keysLawful (tabulate 0 f) ≡ true
+  -- a function of a list's beginnings and a test of every number below n, when they begin and go on alike
+  counted : (g : List ℕ → Bool) (t : ℕ → Bool) → g [] ≡ true → ((n : ℕ) → g (tabulate n f ++ (f n ∷ [])) ≡ (g (tabulate n f) && t n)) → (n : ℕ) → g (tabulate n f) ≡ allBelow n t
+  unfolding allBelow
+  counted g t none more zero = ap g (tab-none f) ∙ none
+  counted g t none more (suc n) =
+      ap (λ (k : ℕ). g (tabulate k f)) (sym (add-one n)) ∙ ap g (tabulate-more n) ∙ more n ∙ ap (λ (b : Bool). b && t n) (counted g t none more n)
+
+  pub keysLawful-all : (n : ℕ) → keysLawful (tabulate n f) ≡ allBelow n (λ i. ltb (f i) 64)
   unfolding keysLawful
-  keysLawful-none = ap keysLawful (tab-none f)
+  keysLawful-all n = counted keysLawful (λ i. ltb (f i) 64) refl (λ m. keysLawful-snoc (tabulate m f) (f m)) n
 
-  pub keysLawful-step : (n : ℕ) → keysLawful (tabulate (n + 1) f) ≡ (keysLawful (tabulate n f) && ltb (f n) 64)
-  keysLawful-step n = ap keysLawful (tabulate-more n) ∙ keysLawful-snoc (tabulate n f) (f n)
-
-  pub holdsKey-none : (k : ℕ) → holdsKey k (tabulate 0 f) ≡ false
+  pub holdsKey-all : (k n : ℕ) → not (holdsKey k (tabulate n f)) ≡ allBelow n (λ i. not (eqb (f i) k))
   unfolding holdsKey
-  holdsKey-none k = ap (holdsKey k) (tab-none f)
+  holdsKey-all k n =
+      counted (λ ks. not (holdsKey k ks)) (λ i. not (eqb (f i) k)) refl
+      (λ m. ap not (holdsKey-snoc k (tabulate m f) (f m)) ∙ neither (holdsKey k (tabulate m f)) (eqb (f m) k)) n
 
-  pub holdsKey-step : (k n : ℕ) → holdsKey k (tabulate (n + 1) f) ≡ (holdsKey k (tabulate n f) || eqb (f n) k)
-  holdsKey-step k n = ap (holdsKey k) (tabulate-more n) ∙ holdsKey-snoc k (tabulate n f) (f n)
-
-  pub distinct-none : distinct (tabulate 0 f) ≡ true
+  pub distinct-all : (n : ℕ) → distinct (tabulate n f) ≡ allBelow n (λ i. not (holdsKey (f i) (tabulate i f)))
   unfolding distinct
-  distinct-none = ap distinct (tab-none f)
-
-  pub distinct-step : (n : ℕ) → distinct (tabulate (n + 1) f) ≡ (distinct (tabulate n f) && not (holdsKey (f n) (tabulate n f)))
-  distinct-step n = ap distinct (tabulate-more n) ∙ distinct-snoc (tabulate n f) (f n)
+  distinct-all n = counted distinct (λ i. not (holdsKey (f i) (tabulate i f))) refl (λ m. distinct-snoc (tabulate m f) (f m)) n
 
 -- ---- a session's page
 

@@ -37,13 +37,14 @@ pub fn sessions_formed(t: &[u8], sites: u8) -> bool
     requires { ⌜ length (now t) ≡ 57344 ⌝ }
     ensures { λ r. ⌜ ((parts : ℕ) → r ≡ allBelow 16 (λ s. sessionFormed (record { sites = sites; parts = parts }) (sessionOf (now (t .entry)) s))) ⌝ }
 {
-    let mut all = true;
     let mut s = 0;
     while s < 16 {
-        all = all & session_at(t, sites, s);
+        if !session_at(t, sites, s) {
+            return false;
+        }
         s += 1;
     }
-    all
+    true
 }
 
 // Site m, with its nodes and outgoing channels.
@@ -60,13 +61,14 @@ pub fn sites_formed(t: &[u8], sites: u8, parts: u8) -> bool
     requires { ⌜ (length (now t) ≡ 57344) × (0 < parts) ⌝ }
     ensures { λ r. ⌜ r ≡ allBelow 4 (λ m. siteFormed (record { sites = sites; parts = parts }) m (siteOf (now (t .entry)) m)) ⌝ }
 {
-    let mut all = true;
     let mut m = 0;
     while m < 4 {
-        all = all & site_at(t, sites, parts, m);
+        if !site_at(t, sites, parts, m) {
+            return false;
+        }
         m += 1;
     }
-    all
+    true
 }
 
 // The numbers of sites and partitions first: nothing else is looked at unless they are lawful.
@@ -79,5 +81,8 @@ pub fn well_formed(t: &[u8]) -> bool
     if !setting_lawful(sites, parts) {
         return false;
     }
-    sessions_formed(t, sites) & sites_formed(t, sites, parts)
+    if !sessions_formed(t, sites) {
+        return false;
+    }
+    sites_formed(t, sites, parts)
 }

@@ -41,7 +41,11 @@ pub fn node_formed(n: &[u8], sites: u8, parts: u8, m: u8, p: u8) -> bool
     if most((m < sites) & (p < parts), 32) < held {
         return false;
     }
-    let clock = table::nodes::clock(n);
-    (vectors::time_lawful(clock) & vectors::vector_formed(n, 8, sites))
-        & records_formed(n, sites, parts, p, held)
+    if !vectors::time_lawful(table::nodes::clock(n)) {
+        return false;
+    }
+    if !vectors::vector_formed(n, 8, sites) {
+        return false;
+    }
+    records_formed(n, sites, parts, p, held)
 }

@@ -14,13 +14,14 @@ pub fn keys_lawful(b: &[u8], at: usize, n: usize) -> bool
     requires { ⌜ at + n ≤ length (now b) ⌝ }
     ensures { λ r. ⌜ r ≡ keysLawful (tabulate n (λ i. load 1 (now (b .entry)) (at + i))) ⌝ }
 {
-    let mut all = true;
     let mut i = 0;
     while i < n {
-        all = all & (codec::load_u8(b, at + i) < 64);
+        if 64 <= codec::load_u8(b, at + i) {
+            return false;
+        }
         i += 1;
     }
-    all
+    true
 }
 
 // The key k is one of the n from `at`.
@@ -28,13 +29,14 @@ pub fn holds_key(b: &[u8], at: usize, n: usize, k: u8) -> bool
     requires { ⌜ at + n ≤ length (now b) ⌝ }
     ensures { λ r. ⌜ r ≡ holdsKey k (tabulate n (λ i. load 1 (now (b .entry)) (at + i))) ⌝ }
 {
-    let mut any = false;
     let mut i = 0;
     while i < n {
-        any = any | (codec::load_u8(b, at + i) == k);
+        if codec::load_u8(b, at + i) == k {
+            return true;
+        }
         i += 1;
     }
-    any
+    false
 }
 
 // The n keys from `at` differ: none is one of those before it.
@@ -42,14 +44,15 @@ pub fn keys_differ(b: &[u8], at: usize, n: usize) -> bool
     requires { ⌜ at + n ≤ length (now b) ⌝ }
     ensures { λ r. ⌜ r ≡ distinct (tabulate n (λ i. load 1 (now (b .entry)) (at + i))) ⌝ }
 {
-    let mut all = true;
     let mut i = 0;
     while i < n {
         let k = codec::load_u8(b, at + i);
-        all = all & !holds_key(b, at, i, k);
+        if holds_key(b, at, i, k) {
+            return false;
+        }
         i += 1;
     }
-    all
+    true
 }
 
 // The keys of a session's page, of which `count` are in use, where the page is open.
@@ -60,6 +63,12 @@ pub fn page_keys(b: &[u8], count: u8) -> bool
     if codec::load_u8(b, 2) != 1 {
         return true;
     }
+    if count == 0 {
+        return false;
+    }
     let n = count as usize;
-    (0 < count) & (keys_lawful(b, 8, n) & keys_differ(b, 8, n))
+    if !keys_lawful(b, 8, n) {
+        return false;
+    }
+    keys_differ(b, 8, n)
 }

@@ -1,7 +1,10 @@
-// A session's 128 bytes: flags and marks, its site, its vector, its page. In order: flags, the page, the session. Assumes nothing.
+// A session's 128 bytes: flags and marks, its site, its vector, its page. In order: flags, the page, the site, the session. Assumes nothing.
 ghost use mathlib.Core.Path.{_≡_};
+ghost use mathlib.Core.Bool.{not, _||_};
 ghost use Prim.Native.Nat.{ℕ, _+_, _≤_};
+ghost use lib.Dec.{ltb, eqb};
 ghost use lib.ListN.{length};
+ghost use Rattle.codec.specs.Le.{load};
 ghost use Rattle.table.specs.Session.{sessionIn};
 ghost use Rattle.lawful.specs.Values.{pageLawful};
 ghost use Rattle.lawful.specs.WellFormed.{flagsAt, sessionFormed};
@@ -13,13 +16,14 @@ pub fn flags_formed(b: &[u8], at: usize, n: usize) -> bool
     requires { ⌜ at + n ≤ length (now b) ⌝ }
     ensures { λ r. ⌜ r ≡ flagsAt (now (b .entry)) at n ⌝ }
 {
-    let mut all = true;
     let mut i = 0;
     while i < n {
-        all = all & (codec::load_u8(b, at + i) < 2);
+        if 2 <= codec::load_u8(b, at + i) {
+            return false;
+        }
         i += 1;
     }
-    all
+    true
 }
 
 // The keys of a page that is not open are not looked at.
@@ -31,18 +35,45 @@ pub fn page_lawful(b: &[u8], sites: u8) -> bool
     if 8 < count {
         return false;
     }
-    pages::page_keys(b, count)
-        & (vectors::vector_formed(b, 64, sites) & vectors::vector_formed(b, 96, sites))
+    if !pages::page_keys(b, count) {
+        return false;
+    }
+    if !vectors::vector_formed(b, 64, sites) {
+        return false;
+    }
+    vectors::vector_formed(b, 96, sites)
 }
 
+// "an open session's site exists"
+pub fn site_lawful(b: &[u8], sites: u8) -> bool
+    requires { ⌜ length (now b) ≡ 128 ⌝ }
+    ensures { λ r. ⌜ r ≡ (not (eqb (load 1 (now (b .entry)) 0) 1) || ltb (load 1 (now (b .entry)) 1) sites) ⌝ }
+{
+    if codec::load_u8(b, 0) != 1 {
+        return true;
+    }
+    codec::load_u8(b, 1) < sites
+}
+
+// Single bytes first, then the vector and the page.
 pub fn session_formed(b: &[u8], sites: u8) -> bool
     requires { ⌜ length (now b) ≡ 128 ⌝ }
     ensures { λ r. ⌜ ((parts : ℕ) → r ≡ sessionFormed (record { sites = sites; parts = parts }) (now (b .entry))) ⌝ }
 {
-    let open = codec::load_u8(b, 0);
-    let site = codec::load_u8(b, 1);
-    let paged = codec::load_u8(b, 2);
-    ((open < 2) & ((paged < 2) & flags_formed(b, 16, 8)))
-        & (((open != 1) | (site < sites))
-            & (vectors::vector_formed(b, 32, sites) & page_lawful(b, sites)))
+    if 2 <= codec::load_u8(b, 0) {
+        return false;
+    }
+    if 2 <= codec::load_u8(b, 2) {
+        return false;
+    }
+    if !site_lawful(b, sites) {
+        return false;
+    }
+    if !flags_formed(b, 16, 8) {
+        return false;
+    }
+    if !vectors::vector_formed(b, 32, sites) {
+        return false;
+    }
+    page_lawful(b, sites)
 }

@@ -33,13 +33,14 @@ pub fn channels_formed(site: &[u8], sites: u8, parts: u8, m: u8, p: u8) -> bool
     requires { ⌜ (length (now site) ≡ 13056) × (0 < parts) × (p < 4) ⌝ }
     ensures { λ r. ⌜ r ≡ allBelow 3 (λ d. channelFormed (record { sites = sites; parts = parts }) m p d (channelOf (now (site .entry)) p d)) ⌝ }
 {
-    let mut all = true;
     let mut d = 0;
     while d < 3 {
-        all = all & channel_at(site, sites, parts, m, p, d);
+        if !channel_at(site, sites, parts, m, p, d) {
+            return false;
+        }
         d += 1;
     }
-    all
+    true
 }
 
 // Site m.
@@ -47,11 +48,15 @@ pub fn site_formed(site: &[u8], sites: u8, parts: u8, m: u8) -> bool
     requires { ⌜ (length (now site) ≡ 13056) × (0 < parts) ⌝ }
     ensures { λ r. ⌜ r ≡ siteFormed (record { sites = sites; parts = parts }) m (now (site .entry)) ⌝ }
 {
-    let mut all = true;
     let mut p = 0;
     while p < 4 {
-        all = all & (node_at(site, sites, parts, m, p) & channels_formed(site, sites, parts, m, p));
+        if !node_at(site, sites, parts, m, p) {
+            return false;
+        }
+        if !channels_formed(site, sites, parts, m, p) {
+            return false;
+        }
         p += 1;
     }
-    all
+    true
 }

@@ -1,9 +1,11 @@
--- `lawful::sessions_formed` meets its contract: `all` says it of the first s sessions. Assumes nothing.
-use mathlib.Core.Path.{_≡_, sym}
+-- `lawful::sessions_formed` meets its contract: the first s sessions passed. Assumes nothing.
+use mathlib.Core.Path.{_≡_, sym, _∙_}
+use mathlib.Core.Bool.{true}
 use Prim.Native.Nat.{ℕ, _-_, _≤_}
 use native.Mathlib.Omega.{arith}
+use borrow.Author.Tests.{not-true, not-false}
 use Rattle.vector.specs.Vec.{allBelow}
-use Rattle.vector.proofs.Entries.{allBelow-none, allBelow-step}
+use Rattle.vector.proofs.Entries.{allBelow-none, allBelow-more, allBelow-fails}
 use Rattle.table.specs.Parts.{sessionOf}
 use Rattle.lawful.specs.WellFormed.{sessionFormed}
 use borrow.Author.Needs.{needs}
@@ -11,16 +13,22 @@ use Rattle.lawful.proofs.sessions_formed.Statement.{statement}
 use Rattle.lawful.proofs.sessions_formed.Tie as tie
 
 abbrev Inv-loop : tie.InvT-loop
-Inv-loop t sites all₀ s₀ all s = (s ≤ 16) × ((parts : ℕ) → all ≡ allBelow s (λ k. sessionFormed (record { sites = sites; parts = parts }) (sessionOf t k)))
+Inv-loop t sites s₀ s = (s ≤ 16) × ((parts : ℕ) → allBelow s (λ k. sessionFormed (record { sites = sites; parts = parts }) (sessionOf t k)) ≡ true)
 
 abbrev μ-loop : tie.MeasureT-loop
-μ-loop t sites all₀ s₀ all s = 16 - s
+μ-loop t sites s₀ s = 16 - s
 
 loop-holds : tie.Need-loop-holds Inv-loop μ-loop
-loop-holds c = (omega arith, λ parts. sym (allBelow-none _))
+loop-holds c = (omega arith, λ parts. allBelow-none _)
 
 session-at-requires : tie.Need-session-at-requires Inv-loop μ-loop
 session-at-requires c κs = search needs
+
+returns : tie.Need-returns Inv-loop μ-loop
+returns c =
+    λ parts.
+    let no = sym (c .before .session-at .ensures parts) ∙ not-true _ (c .if1 .taken) in
+    sym (allBelow-fails 16 _ (c .before .before .before .loop .s) (omega arith) no)
 
 add-s : tie.Need-add-s Inv-loop μ-loop
 add-s c = search needs
@@ -30,17 +38,26 @@ loop-less c = search needs
 
 loop-again : tie.Need-loop-again Inv-loop μ-loop
 loop-again c =
-    let l = c .before .before in
-    (omega arith, λ parts. rw (l .loop .inv .1 parts, c .session-at .ensures parts) (sym (allBelow-step (l .loop .s) _)))
+    let l = c .before .before .before in
+    (omega arith, λ parts. allBelow-more (l .loop .s) _ (l .loop .inv .1 parts) (sym (c .before .session-at .ensures parts) ∙ not-false _ (c .if1 .left)))
 
-returns : tie.Need-returns Inv-loop μ-loop
-returns c =
+returns-2 : tie.Need-returns-2 Inv-loop μ-loop
+returns-2 c =
     λ parts.
     let l = c .before in
     let e : l .loop .s ≡ 16 = omega arith in
-    rw e at (l .loop .inv .1 parts)
+    sym (rw e at (l .loop .inv .1 parts))
 
 pub sessions-formed-spec : {M : Type 1} → statement M
 sessions-formed-spec =
     tie.close
-    (tie.spec Inv-loop μ-loop loop-holds session-at-requires add-s loop-less loop-again returns)
+    (tie.spec
+    Inv-loop
+    μ-loop
+    loop-holds
+    session-at-requires
+    returns
+    add-s
+    loop-less
+    loop-again
+    returns-2)

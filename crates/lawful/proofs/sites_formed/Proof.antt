@@ -1,9 +1,11 @@
--- `lawful::sites_formed` meets its contract: `all` says it of the first m sites. Assumes nothing.
-use mathlib.Core.Path.{_≡_, sym}
+-- `lawful::sites_formed` meets its contract: the first m sites passed. Assumes nothing.
+use mathlib.Core.Path.{_≡_, sym, _∙_}
+use mathlib.Core.Bool.{true}
 use Prim.Native.Nat.{_-_, _≤_}
 use native.Mathlib.Omega.{arith}
+use borrow.Author.Tests.{not-true, not-false}
 use Rattle.vector.specs.Vec.{allBelow}
-use Rattle.vector.proofs.Entries.{allBelow-none, allBelow-step}
+use Rattle.vector.proofs.Entries.{allBelow-none, allBelow-more, allBelow-fails}
 use Rattle.table.specs.Parts.{siteOf}
 use Rattle.lawful.specs.WellFormed.{siteFormed}
 use borrow.Author.Needs.{needs}
@@ -11,16 +13,21 @@ use Rattle.lawful.proofs.sites_formed.Statement.{statement}
 use Rattle.lawful.proofs.sites_formed.Tie as tie
 
 abbrev Inv-loop : tie.InvT-loop
-Inv-loop t sites parts all₀ m₀ all m = (m ≤ 4) × (all ≡ allBelow m (λ k. siteFormed (record { sites = sites; parts = parts }) k (siteOf t k)))
+Inv-loop t sites parts m₀ m = (m ≤ 4) × (allBelow m (λ k. siteFormed (record { sites = sites; parts = parts }) k (siteOf t k)) ≡ true)
 
 abbrev μ-loop : tie.MeasureT-loop
-μ-loop t sites parts all₀ m₀ all m = 4 - m
+μ-loop t sites parts m₀ m = 4 - m
 
 loop-holds : tie.Need-loop-holds Inv-loop μ-loop
-loop-holds c = (omega arith, sym (allBelow-none _))
+loop-holds c = (omega arith, allBelow-none _)
 
 site-at-requires : tie.Need-site-at-requires Inv-loop μ-loop
 site-at-requires c κs = search needs
+
+returns : tie.Need-returns Inv-loop μ-loop
+returns c =
+    let no = sym (c .before .site-at .ensures) ∙ not-true _ (c .if1 .taken) in
+    sym (allBelow-fails 4 _ (c .before .before .before .loop .m) (omega arith) no)
 
 add-m : tie.Need-add-m Inv-loop μ-loop
 add-m c = search needs
@@ -30,16 +37,26 @@ loop-less c = search needs
 
 loop-again : tie.Need-loop-again Inv-loop μ-loop
 loop-again c =
-    let l = c .before .before in
-    (omega arith, rw (l .loop .inv .1, c .site-at .ensures) (sym (allBelow-step (l .loop .m) _)))
+    let l = c .before .before .before in
+    let yes = sym (c .before .site-at .ensures) ∙ not-false _ (c .if1 .left) in
+    (omega arith, allBelow-more (l .loop .m) _ (l .loop .inv .1) yes)
 
-returns : tie.Need-returns Inv-loop μ-loop
-returns c =
+returns-2 : tie.Need-returns-2 Inv-loop μ-loop
+returns-2 c =
     let l = c .before in
     let e : l .loop .m ≡ 4 = omega arith in
-    rw e at (l .loop .inv .1)
+    sym (rw e at (l .loop .inv .1))
 
 pub sites-formed-spec : {M : Type 1} → statement M
 sites-formed-spec =
     tie.close
-    (tie.spec Inv-loop μ-loop loop-holds site-at-requires add-m loop-less loop-again returns)
+    (tie.spec
+    Inv-loop
+    μ-loop
+    loop-holds
+    site-at-requires
+    returns
+    add-m
+    loop-less
+    loop-again
+    returns-2)

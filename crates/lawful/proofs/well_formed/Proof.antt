@@ -1,4 +1,4 @@
--- `lawful::well_formed` meets its contract, whether its numbers of sites and partitions are lawful or not. Assumes nothing.
+-- `lawful::well_formed` meets its contract, whichever test fails first. Assumes nothing.
 use mathlib.Core.Path.{_≡_, sym, subst, _∙_}
 use mathlib.Core.Bool.{true, _&&_}
 use Prim.Native.Nat.{_<_}
@@ -39,12 +39,6 @@ returns c =
 sessions-formed-requires : tie.Need-sessions-formed-requires
 sessions-formed-requires c κs = search needs
 
-sites-formed-requires : tie.Need-sites-formed-requires
-sites-formed-requires c κs =
-    let at = c .before in
-    let yes = sym (at .before .setting-lawful .ensures) ∙ not-false _ (at .if1 .left) in
-    (search needs, parts-some _ yes)
-
 returns-2 : tie.Need-returns-2
 unfolding wellFormed settingIn
 returns-2 c =
@@ -52,7 +46,24 @@ returns-2 c =
     let yes = sym (at .before .setting-lawful .ensures) ∙ not-false _ (at .if1 .left) in
     let parts = at .before .before .load-u82 in
     let sites = at .before .before .before .load-u8 in
-    rw (← parts .ensures, ← sites .ensures, yes, c .before .sessions-formed .ensures (parts .result), c .sites-formed .ensures)
+    let no = sym (c .before .sessions-formed .ensures (parts .result)) ∙ not-true _ (c .if2 .taken) in
+    rw (← parts .ensures, ← sites .ensures, yes, no)
+
+sites-formed-requires : tie.Need-sites-formed-requires
+sites-formed-requires c κs =
+    let at = c .before .before in
+    let yes = sym (at .before .setting-lawful .ensures) ∙ not-false _ (at .if1 .left) in
+    (search needs, parts-some _ yes)
+
+returns-3 : tie.Need-returns-3
+unfolding wellFormed settingIn
+returns-3 c =
+    let at = c .before .before .before in
+    let yes = sym (at .before .setting-lawful .ensures) ∙ not-false _ (at .if1 .left) in
+    let parts = at .before .before .load-u82 in
+    let sites = at .before .before .before .load-u8 in
+    let yesSessions = sym (c .before .before .sessions-formed .ensures (parts .result)) ∙ not-false _ (c .before .if2 .left) in
+    rw (← parts .ensures, ← sites .ensures, yes, yesSessions, c .sites-formed .ensures)
 
 pub well-formed-spec : {M : Type 1} → statement M
 well-formed-spec =
@@ -63,5 +74,6 @@ well-formed-spec =
     setting-lawful-requires
     returns
     sessions-formed-requires
+    returns-2
     sites-formed-requires
-    returns-2)
+    returns-3)

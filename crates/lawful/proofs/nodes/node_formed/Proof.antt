@@ -1,6 +1,7 @@
--- `lawful::nodes::node_formed` meets its contract, whether there are too many records or not. Assumes nothing.
+-- `lawful::nodes::node_formed` meets its contract, whichever test fails first. Assumes nothing.
+use mathlib.Core.Path.{sym, _∙_}
 use mathlib.Core.Bool.{and-false}
-use borrow.Author.Tests.{lt-leb, le-leb}
+use borrow.Author.Tests.{not-true, not-false, lt-leb, le-leb}
 use Rattle.table.specs.Node.{heardIn}
 use Rattle.lawful.specs.WellFormed.{nodeFormed}
 use borrow.Author.Needs.{needs}
@@ -25,20 +26,38 @@ clock-requires c κs = search needs
 time-lawful-requires : tie.Need-time-lawful-requires
 time-lawful-requires c κs = search needs
 
+returns-2 : tie.Need-returns-2
+unfolding nodeFormed
+returns-2 c =
+    let no = sym (c .before .time-lawful .ensures) ∙ not-true _ (c .if2 .taken) in
+    rw (← c .before .before .clock .ensures, no)
+
 vector-formed-requires : tie.Need-vector-formed-requires
 vector-formed-requires c κs = search needs
+
+returns-3 : tie.Need-returns-3
+unfolding nodeFormed heardIn
+returns-3 c =
+    let at = c .before .before .before .before .before in
+    let parts = at .before .before .before .before .args .parts in
+    let no = sym (c .before .vector-formed .ensures parts) ∙ not-true _ (c .if3 .taken) in
+    rw (no, and-false)
 
 records-formed-requires : tie.Need-records-formed-requires
 records-formed-requires c κs = search needs
 
-returns-2 : tie.Need-returns-2
+returns-4 : tie.Need-returns-4
 unfolding nodeFormed heardIn
-returns-2 c =
-    let at = c .before .before .before .before in
+returns-4 c =
+    let vec = c .before in
+    let time = vec .before .before in
+    let at = time .before .before .before in
     let held = at .before .before .held .ensures in
     let few = rw (at .before .most .ensures .0, held) at (at .if1 .left) in
     let parts = at .before .before .before .before .args .parts in
-    rw (le-leb _ _ few, c .records-formed .ensures, c .before .vector-formed .ensures parts, c .before .before .time-lawful .ensures, c .before .before .before .clock .ensures, held)
+    let yesVec = sym (vec .before .vector-formed .ensures parts) ∙ not-false _ (vec .if3 .left) in
+    let yesTime = sym (time .before .time-lawful .ensures) ∙ not-false _ (time .if2 .left) in
+    rw (le-leb _ _ few, c .records-formed .ensures, yesVec, ← time .before .before .clock .ensures, yesTime, held)
 
 pub node-formed-spec : {M : Type 1} → statement M
 node-formed-spec =
@@ -49,6 +68,8 @@ node-formed-spec =
     returns
     clock-requires
     time-lawful-requires
+    returns-2
     vector-formed-requires
+    returns-3
     records-formed-requires
-    returns-2)
+    returns-4)

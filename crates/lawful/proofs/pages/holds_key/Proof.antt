@@ -1,29 +1,38 @@
--- `lawful::pages::holds_key` meets its contract: `any` says it of the first i keys. Assumes nothing.
-use mathlib.Core.Path.{_≡_, sym}
+-- `lawful::pages::holds_key` meets its contract: k is none of the first i keys. Assumes nothing.
+use mathlib.Core.Path.{_≡_, sym, ap, _∙_}
+use mathlib.Core.Bool.{true, not}
 use Prim.Native.Nat.{_+_, _-_, _≤_}
 use native.Mathlib.Omega.{arith}
+use borrow.Author.Tests.{not-true, not-false, eq-eqb, ne-eqb}
+use lib.Dec.{eqb}
 use Rattle.codec.specs.Le.{load}
-use Rattle.protocol.specs.Needs.{holdsKey}
-use Rattle.table.specs.Tabulate.{tabulate}
-use Rattle.lawful.proofs.KeyTests.{holdsKey-none, holdsKey-step}
+use Rattle.vector.specs.Vec.{allBelow}
+use Rattle.vector.proofs.Entries.{allBelow-none, allBelow-more, allBelow-fails}
+use Rattle.lawful.proofs.KeyTests.{holdsKey-all}
 use borrow.Author.Needs.{needs}
 use Rattle.lawful.proofs.pages.holds_key.Statement.{statement}
 use Rattle.lawful.proofs.pages.holds_key.Tie as tie
 
 abbrev Inv-loop : tie.InvT-loop
-Inv-loop b at n k any₀ i₀ any i = (i ≤ n) × (any ≡ holdsKey k (tabulate i (λ j. load 1 b (at + j))))
+Inv-loop b at n k i₀ i = (i ≤ n) × (allBelow i (λ j. not (eqb (load 1 b (at + j)) k)) ≡ true)
 
 abbrev μ-loop : tie.MeasureT-loop
-μ-loop b at n k any₀ i₀ any i = n - i
+μ-loop b at n k i₀ i = n - i
 
 loop-holds : tie.Need-loop-holds Inv-loop μ-loop
-loop-holds c = (omega arith, sym (holdsKey-none _ _))
+loop-holds c = (omega arith, allBelow-none _)
 
 add-load-u8 : tie.Need-add-load-u8 Inv-loop μ-loop
 add-load-u8 c = search needs
 
 load-u8-requires : tie.Need-load-u8-requires Inv-loop μ-loop
 load-u8-requires c κs = search needs
+
+returns : tie.Need-returns Inv-loop μ-loop
+returns c =
+    let l = c .before .before .before in
+    let same = sym (c .before .load-u8 .ensures) ∙ c .if1 .taken in
+    sym (not-false _ (holdsKey-all _ _ _ ∙ allBelow-fails _ _ (l .loop .i) (omega arith) (ap not (eq-eqb _ _ same))))
 
 add-i : tie.Need-add-i Inv-loop μ-loop
 add-i c = search needs
@@ -33,14 +42,15 @@ loop-less c = search needs
 
 loop-again : tie.Need-loop-again Inv-loop μ-loop
 loop-again c =
-    let l = c .before .before in
-    (omega arith, rw (l .loop .inv .1, c .load-u8 .ensures) (sym (holdsKey-step _ _ (l .loop .i))))
+    let l = c .before .before .before in
+    let other = ne-eqb _ _ (λ e. c .if1 .left (c .before .load-u8 .ensures ∙ e)) in
+    (omega arith, allBelow-more (l .loop .i) _ (l .loop .inv .1) (ap not other))
 
-returns : tie.Need-returns Inv-loop μ-loop
-returns c =
+returns-2 : tie.Need-returns-2 Inv-loop μ-loop
+returns-2 c =
     let l = c .before in
     let e : l .loop .i ≡ l .before .before .args .n = omega arith in
-    rw e at (l .loop .inv .1)
+    sym (not-true _ (holdsKey-all _ _ _ ∙ rw e at (l .loop .inv .1)))
 
 pub holds-key-spec : {M : Type 1} → statement M
 holds-key-spec =
@@ -51,7 +61,8 @@ holds-key-spec =
     loop-holds
     add-load-u8
     load-u8-requires
+    returns
     add-i
     loop-less
     loop-again
-    returns)
+    returns-2)

@@ -1,23 +1,26 @@
--- `lawful::pages::keys_differ` meets its contract: `all` says it of the first i keys. Assumes nothing.
-use mathlib.Core.Path.{_≡_, sym}
+-- `lawful::pages::keys_differ` meets its contract: the first i keys differ. Assumes nothing.
+use mathlib.Core.Path.{_≡_, sym, ap, _∙_}
+use mathlib.Core.Bool.{true, not}
 use Prim.Native.Nat.{_+_, _-_, _≤_}
 use native.Mathlib.Omega.{arith}
 use Rattle.codec.specs.Le.{load}
-use Rattle.protocol.specs.Needs.{distinct}
+use Rattle.vector.specs.Vec.{allBelow}
+use Rattle.vector.proofs.Entries.{allBelow-none, allBelow-more, allBelow-fails}
+use Rattle.protocol.specs.Needs.{holdsKey}
 use Rattle.table.specs.Tabulate.{tabulate}
-use Rattle.lawful.proofs.KeyTests.{distinct-none, distinct-step}
+use Rattle.lawful.proofs.KeyTests.{distinct-all}
 use borrow.Author.Needs.{needs}
 use Rattle.lawful.proofs.pages.keys_differ.Statement.{statement}
 use Rattle.lawful.proofs.pages.keys_differ.Tie as tie
 
 abbrev Inv-loop : tie.InvT-loop
-Inv-loop b at n all₀ i₀ all i = (i ≤ n) × (all ≡ distinct (tabulate i (λ k. load 1 b (at + k))))
+Inv-loop b at n i₀ i = (i ≤ n) × (allBelow i (λ k. not (holdsKey (load 1 b (at + k)) (tabulate k (λ j. load 1 b (at + j))))) ≡ true)
 
 abbrev μ-loop : tie.MeasureT-loop
-μ-loop b at n all₀ i₀ all i = n - i
+μ-loop b at n i₀ i = n - i
 
 loop-holds : tie.Need-loop-holds Inv-loop μ-loop
-loop-holds c = (omega arith, sym (distinct-none _))
+loop-holds c = (omega arith, allBelow-none _)
 
 add-load-u8 : tie.Need-add-load-u8 Inv-loop μ-loop
 add-load-u8 c = search needs
@@ -28,6 +31,12 @@ load-u8-requires c κs = search needs
 holds-key-requires : tie.Need-holds-key-requires Inv-loop μ-loop
 holds-key-requires c κs = search needs
 
+returns : tie.Need-returns Inv-loop μ-loop
+returns c =
+    let l = c .before .before .before .before in
+    let twice = rw (c .before .holds-key .ensures, c .before .before .load-u8 .ensures) at (c .if1 .taken) in
+    sym (distinct-all _ _ ∙ allBelow-fails _ _ (l .loop .i) (omega arith) (ap not twice))
+
 add-i : tie.Need-add-i Inv-loop μ-loop
 add-i c = search needs
 
@@ -36,14 +45,15 @@ loop-less c = search needs
 
 loop-again : tie.Need-loop-again Inv-loop μ-loop
 loop-again c =
-    let l = c .before .before .before in
-    (omega arith, rw (l .loop .inv .1, c .holds-key .ensures, c .before .load-u8 .ensures) (sym (distinct-step _ (l .loop .i))))
+    let l = c .before .before .before .before in
+    let new = rw (c .before .holds-key .ensures, c .before .before .load-u8 .ensures) at (c .if1 .left) in
+    (omega arith, allBelow-more (l .loop .i) _ (l .loop .inv .1) (ap not new))
 
-returns : tie.Need-returns Inv-loop μ-loop
-returns c =
+returns-2 : tie.Need-returns-2 Inv-loop μ-loop
+returns-2 c =
     let l = c .before in
     let e : l .loop .i ≡ l .before .before .args .n = omega arith in
-    rw e at (l .loop .inv .1)
+    sym (distinct-all _ _ ∙ rw e at (l .loop .inv .1))
 
 pub keys-differ-spec : {M : Type 1} → statement M
 keys-differ-spec =
@@ -55,7 +65,8 @@ keys-differ-spec =
     add-load-u8
     load-u8-requires
     holds-key-requires
+    returns
     add-i
     loop-less
     loop-again
-    returns)
+    returns-2)

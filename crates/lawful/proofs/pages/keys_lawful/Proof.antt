@@ -1,29 +1,38 @@
--- `lawful::pages::keys_lawful` meets its contract: `all` says it of the first i keys. Assumes nothing.
-use mathlib.Core.Path.{_≡_, sym}
+-- `lawful::pages::keys_lawful` meets its contract: the first i keys passed. Assumes nothing.
+use mathlib.Core.Path.{_≡_, sym, _∙_}
+use mathlib.Core.Bool.{true}
 use Prim.Native.Nat.{_+_, _-_, _≤_}
 use native.Mathlib.Omega.{arith}
+use borrow.Author.Tests.{lt-ltb, le-ltb}
+use lib.Dec.{ltb}
 use Rattle.codec.specs.Le.{load}
-use Rattle.protocol.specs.Needs.{keysLawful}
-use Rattle.table.specs.Tabulate.{tabulate}
-use Rattle.lawful.proofs.KeyTests.{keysLawful-none, keysLawful-step}
+use Rattle.vector.specs.Vec.{allBelow}
+use Rattle.vector.proofs.Entries.{allBelow-none, allBelow-more, allBelow-fails}
+use Rattle.lawful.proofs.KeyTests.{keysLawful-all}
 use borrow.Author.Needs.{needs}
 use Rattle.lawful.proofs.pages.keys_lawful.Statement.{statement}
 use Rattle.lawful.proofs.pages.keys_lawful.Tie as tie
 
 abbrev Inv-loop : tie.InvT-loop
-Inv-loop b at n all₀ i₀ all i = (i ≤ n) × (all ≡ keysLawful (tabulate i (λ k. load 1 b (at + k))))
+Inv-loop b at n i₀ i = (i ≤ n) × (allBelow i (λ k. ltb (load 1 b (at + k)) 64) ≡ true)
 
 abbrev μ-loop : tie.MeasureT-loop
-μ-loop b at n all₀ i₀ all i = n - i
+μ-loop b at n i₀ i = n - i
 
 loop-holds : tie.Need-loop-holds Inv-loop μ-loop
-loop-holds c = (omega arith, sym (keysLawful-none _))
+loop-holds c = (omega arith, allBelow-none _)
 
 add-load-u8 : tie.Need-add-load-u8 Inv-loop μ-loop
 add-load-u8 c = search needs
 
 load-u8-requires : tie.Need-load-u8-requires Inv-loop μ-loop
 load-u8-requires c κs = search needs
+
+returns : tie.Need-returns Inv-loop μ-loop
+returns c =
+    let l = c .before .before .before in
+    let big = rw (c .before .load-u8 .ensures) at (c .if1 .taken) in
+    sym (keysLawful-all _ _ ∙ allBelow-fails _ _ (l .loop .i) (omega arith) (le-ltb _ 64 big))
 
 add-i : tie.Need-add-i Inv-loop μ-loop
 add-i c = search needs
@@ -33,14 +42,15 @@ loop-less c = search needs
 
 loop-again : tie.Need-loop-again Inv-loop μ-loop
 loop-again c =
-    let l = c .before .before in
-    (omega arith, rw (l .loop .inv .1, c .load-u8 .ensures) (sym (keysLawful-step _ (l .loop .i))))
+    let l = c .before .before .before in
+    let small = rw (c .before .load-u8 .ensures) at (c .if1 .left) in
+    (omega arith, allBelow-more (l .loop .i) _ (l .loop .inv .1) (lt-ltb _ 64 small))
 
-returns : tie.Need-returns Inv-loop μ-loop
-returns c =
+returns-2 : tie.Need-returns-2 Inv-loop μ-loop
+returns-2 c =
     let l = c .before in
     let e : l .loop .i ≡ l .before .before .args .n = omega arith in
-    rw e at (l .loop .inv .1)
+    sym (keysLawful-all _ _ ∙ rw e at (l .loop .inv .1))
 
 pub keys-lawful-spec : {M : Type 1} → statement M
 keys-lawful-spec =
@@ -51,7 +61,8 @@ keys-lawful-spec =
     loop-holds
     add-load-u8
     load-u8-requires
+    returns
     add-i
     loop-less
     loop-again
-    returns)
+    returns-2)

@@ -1,9 +1,19 @@
 -- `lawful::pages::page_keys` meets its contract, whether the page is open or not. Assumes nothing.
-use mathlib.Core.Path.{sym, _∙_}
-use borrow.Author.Tests.{ne-eqb}
+use mathlib.Core.Path.{_≡_, sym, _∙_}
+use mathlib.Core.Bool.{true, false}
+use Prim.Native.Nat.{ℕ}
+use native.Mathlib.Omega.{arith}
+use borrow.Author.Tests.{not-true, not-false, lt-ltb, le-ltb, ne-eqb}
+use lib.Dec.{ltb}
 use borrow.Author.Needs.{needs}
 use Rattle.lawful.proofs.pages.page_keys.Statement.{statement}
 use Rattle.lawful.proofs.pages.page_keys.Tie as tie
+
+no-key : (n : ℕ) → n ≡ 0 → ltb 0 n ≡ false
+no-key n e = le-ltb 0 n (omega arith)
+
+some-key : (n : ℕ) → (n ≡ 0 → ⊥) → ltb 0 n ≡ true
+some-key n e = lt-ltb 0 n (omega arith)
 
 load-u8-requires : tie.Need-load-u8-requires
 load-u8-requires c κs = search needs
@@ -11,19 +21,41 @@ load-u8-requires c κs = search needs
 returns : tie.Need-returns
 returns c = rw (ne-eqb _ 1 (λ e. c .if1 .taken (c .before .load-u8 .ensures ∙ e)))
 
+returns-2 : tie.Need-returns-2
+returns-2 c =
+    let at = c .before in
+    let isOpen = sym (at .before .load-u8 .ensures) ∙ at .if1 .left in
+    rw (isOpen, no-key _ (c .if2 .taken))
+
 keys-lawful-requires : tie.Need-keys-lawful-requires
 keys-lawful-requires c κs = search needs
+
+returns-3 : tie.Need-returns-3
+returns-3 c =
+    let at = c .before .before .before in
+    let isOpen = sym (at .before .load-u8 .ensures) ∙ at .if1 .left in
+    let no = sym (c .before .keys-lawful .ensures) ∙ not-true _ (c .if3 .taken) in
+    rw (isOpen, some-key _ (c .before .before .if2 .left), no)
 
 keys-differ-requires : tie.Need-keys-differ-requires
 keys-differ-requires c κs = search needs
 
-returns-2 : tie.Need-returns-2
-returns-2 c =
-    let at = c .before .before in
+returns-4 : tie.Need-returns-4
+returns-4 c =
+    let some = c .before .before .before in
+    let at = some .before in
     let isOpen = sym (at .before .load-u8 .ensures) ∙ at .if1 .left in
-    rw (isOpen, c .before .keys-lawful .ensures, c .keys-differ .ensures)
+    let yes = sym (c .before .before .keys-lawful .ensures) ∙ not-false _ (c .before .if3 .left) in
+    rw (isOpen, some-key _ (some .if2 .left), yes, c .keys-differ .ensures)
 
 pub page-keys-spec : {M : Type 1} → statement M
 page-keys-spec =
     tie.close
-    (tie.spec load-u8-requires returns keys-lawful-requires keys-differ-requires returns-2)
+    (tie.spec
+    load-u8-requires
+    returns
+    returns-2
+    keys-lawful-requires
+    returns-3
+    keys-differ-requires
+    returns-4)

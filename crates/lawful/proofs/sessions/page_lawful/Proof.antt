@@ -1,5 +1,7 @@
--- `lawful::sessions::page_lawful` meets its contract, whether there are too many keys or not. Assumes nothing.
-use borrow.Author.Tests.{lt-leb, le-leb}
+-- `lawful::sessions::page_lawful` meets its contract, whichever test fails first. Assumes nothing.
+use mathlib.Core.Path.{sym, _∙_}
+use mathlib.Core.Bool.{and-false}
+use borrow.Author.Tests.{not-true, not-false, lt-leb, le-leb}
 use Rattle.lawful.proofs.KeyTests.{pageLawful-in}
 use borrow.Author.Needs.{needs}
 use Rattle.lawful.proofs.sessions.page_lawful.Statement.{statement}
@@ -14,19 +16,35 @@ returns c = λ parts. rw (pageLawful-in, lt-leb _ 8 (rw (c .before .load-u8 .ens
 page-keys-requires : tie.Need-page-keys-requires
 page-keys-requires c κs = search needs
 
+returns-2 : tie.Need-returns-2
+returns-2 c =
+    λ parts.
+    let count = c .before .before .before .load-u8 .ensures in
+    let no = rw count at (sym (c .before .page-keys .ensures) ∙ not-true _ (c .if2 .taken)) in
+    rw (pageLawful-in, no, and-false)
+
 vector-formed-requires : tie.Need-vector-formed-requires
 vector-formed-requires c κs = search needs
+
+returns-3 : tie.Need-returns-3
+returns-3 c =
+    λ parts.
+    let no = sym (c .before .vector-formed .ensures parts) ∙ not-true _ (c .if3 .taken) in
+    rw (pageLawful-in, no, and-false, and-false)
 
 vector-formed-requires-2 : tie.Need-vector-formed-requires-2
 vector-formed-requires-2 c κs = search needs
 
-returns-2 : tie.Need-returns-2
-returns-2 c =
+returns-4 : tie.Need-returns-4
+returns-4 c =
     λ parts.
-    let at = c .before .before .before in
+    let keys = c .before .before .before in
+    let at = keys .before .before in
     let count = at .before .load-u8 .ensures in
     let few = rw count at (at .if1 .left) in
-    rw (pageLawful-in, le-leb _ 8 few, c .before .before .page-keys .ensures, count, c .before .vector-formed .ensures parts, c .vector-formed2 .ensures parts)
+    let yesKeys = rw count at (sym (keys .before .page-keys .ensures) ∙ not-false _ (keys .if2 .left)) in
+    let yesVec = sym (c .before .before .vector-formed .ensures parts) ∙ not-false _ (c .before .if3 .left) in
+    rw (pageLawful-in, le-leb _ 8 few, yesKeys, yesVec, c .vector-formed2 .ensures parts)
 
 pub page-lawful-spec : {M : Type 1} → statement M
 page-lawful-spec =
@@ -35,6 +53,8 @@ page-lawful-spec =
     load-u8-requires
     returns
     page-keys-requires
+    returns-2
     vector-formed-requires
+    returns-3
     vector-formed-requires-2
-    returns-2)
+    returns-4)

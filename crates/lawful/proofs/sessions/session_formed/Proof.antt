@@ -1,4 +1,7 @@
--- `lawful::sessions::session_formed` meets its contract, by what its callees ensure. Assumes nothing.
+-- `lawful::sessions::session_formed` meets its contract, whichever test fails first. Assumes nothing.
+use mathlib.Core.Path.{sym, _∙_}
+use mathlib.Core.Bool.{and-false}
+use borrow.Author.Tests.{not-true, not-false, lt-ltb, le-ltb}
 use Rattle.table.specs.Session.{sessionIn}
 use Rattle.lawful.specs.Values.{sessionLawful}
 use Rattle.lawful.specs.WellFormed.{sessionFormed}
@@ -9,36 +12,79 @@ use Rattle.lawful.proofs.sessions.session_formed.Tie as tie
 load-u8-requires : tie.Need-load-u8-requires
 load-u8-requires c κs = search needs
 
+returns : tie.Need-returns
+unfolding sessionFormed
+returns c = λ parts. rw (le-ltb _ 2 (rw (c .before .load-u8 .ensures) at (c .if1 .taken)))
+
 load-u8-requires-2 : tie.Need-load-u8-requires-2
 load-u8-requires-2 c κs = search needs
 
-load-u8-requires-3 : tie.Need-load-u8-requires-3
-load-u8-requires-3 c κs = search needs
+returns-2 : tie.Need-returns-2
+unfolding sessionFormed
+returns-2 c = λ parts. rw (le-ltb _ 2 (rw (c .before .load-u82 .ensures) at (c .if2 .taken)), and-false)
+
+site-lawful-requires : tie.Need-site-lawful-requires
+site-lawful-requires c κs = search needs
+
+returns-3 : tie.Need-returns-3
+unfolding sessionFormed sessionLawful sessionIn
+returns-3 c =
+    λ parts.
+    let no = sym (c .before .site-lawful .ensures) ∙ not-true _ (c .if3 .taken) in
+    rw (no, and-false)
 
 flags-formed-requires : tie.Need-flags-formed-requires
 flags-formed-requires c κs = search needs
 
+returns-4 : tie.Need-returns-4
+unfolding sessionFormed
+returns-4 c =
+    λ parts.
+    let no = sym (c .before .flags-formed .ensures) ∙ not-true _ (c .if4 .taken) in
+    rw (no, and-false, and-false)
+
 vector-formed-requires : tie.Need-vector-formed-requires
 vector-formed-requires c κs = search needs
+
+returns-5 : tie.Need-returns-5
+unfolding sessionFormed sessionLawful sessionIn
+returns-5 c =
+    λ parts.
+    let no = sym (c .before .vector-formed .ensures parts) ∙ not-true _ (c .if5 .taken) in
+    rw (no, and-false, and-false)
 
 page-lawful-requires : tie.Need-page-lawful-requires
 page-lawful-requires c κs = search needs
 
-returns : tie.Need-returns
+returns-6 : tie.Need-returns-6
 unfolding sessionFormed sessionLawful sessionIn
-returns c =
+returns-6 c =
     λ parts.
-    let loads = c .before .before .before in
-    rw (c .page-lawful .ensures parts, c .before .vector-formed .ensures parts, c .before .before .flags-formed .ensures, loads .load-u83 .ensures, loads .before .load-u82 .ensures, loads .before .before .load-u8 .ensures)
+    let vec = c .before in
+    let marks = vec .before .before in
+    let site = marks .before .before in
+    let paged = site .before .before in
+    let isOpen = paged .before .before in
+    let yesOpen = lt-ltb _ 2 (rw (isOpen .before .load-u8 .ensures) at (isOpen .if1 .left)) in
+    let yesPaged = lt-ltb _ 2 (rw (paged .before .load-u82 .ensures) at (paged .if2 .left)) in
+    let yesSite = sym (site .before .site-lawful .ensures) ∙ not-false _ (site .if3 .left) in
+    let yesMarks = sym (marks .before .flags-formed .ensures) ∙ not-false _ (marks .if4 .left) in
+    let yesVec = sym (vec .before .vector-formed .ensures parts) ∙ not-false _ (vec .if5 .left) in
+    rw (yesOpen, yesPaged, yesSite, yesMarks, yesVec, c .page-lawful .ensures parts)
 
 pub session-formed-spec : {M : Type 1} → statement M
 session-formed-spec =
     tie.close
     (tie.spec
     load-u8-requires
+    returns
     load-u8-requires-2
-    load-u8-requires-3
+    returns-2
+    site-lawful-requires
+    returns-3
     flags-formed-requires
+    returns-4
     vector-formed-requires
+    returns-5
     page-lawful-requires
-    returns)
+    returns-6)

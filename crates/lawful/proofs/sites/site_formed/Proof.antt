@@ -1,10 +1,11 @@
--- `lawful::sites::site_formed` meets its contract: `all` says it of the first p partitions. Assumes nothing.
-use mathlib.Core.Path.{_≡_, sym}
-use mathlib.Core.Bool.{_&&_}
+-- `lawful::sites::site_formed` meets its contract: the first p partitions passed. Assumes nothing.
+use mathlib.Core.Path.{_≡_, sym, _∙_}
+use mathlib.Core.Bool.{true, _&&_, and-false}
 use Prim.Native.Nat.{_-_, _≤_}
 use native.Mathlib.Omega.{arith}
+use borrow.Author.Tests.{not-true, not-false}
 use Rattle.vector.specs.Vec.{allBelow}
-use Rattle.vector.proofs.Entries.{allBelow-none, allBelow-step}
+use Rattle.vector.proofs.Entries.{allBelow-none, allBelow-more, allBelow-fails}
 use Rattle.table.specs.Parts.{nodeOf, channelOf}
 use Rattle.lawful.specs.WellFormed.{nodeFormed, channelFormed, siteFormed}
 use borrow.Author.Needs.{needs}
@@ -12,19 +13,32 @@ use Rattle.lawful.proofs.sites.site_formed.Statement.{statement}
 use Rattle.lawful.proofs.sites.site_formed.Tie as tie
 
 abbrev Inv-loop : tie.InvT-loop
-Inv-loop site sites parts m all₀ p₀ all p = (p ≤ 4) × (all ≡ allBelow p (λ k. nodeFormed (record { sites = sites; parts = parts }) m k (nodeOf site k) && allBelow 3 (λ d. channelFormed (record { sites = sites; parts = parts }) m k d (channelOf site k d))))
+Inv-loop site sites parts m p₀ p = (p ≤ 4) × (allBelow p (λ k. nodeFormed (record { sites = sites; parts = parts }) m k (nodeOf site k) && allBelow 3 (λ d. channelFormed (record { sites = sites; parts = parts }) m k d (channelOf site k d))) ≡ true)
 
 abbrev μ-loop : tie.MeasureT-loop
-μ-loop site sites parts m all₀ p₀ all p = 4 - p
+μ-loop site sites parts m p₀ p = 4 - p
 
 loop-holds : tie.Need-loop-holds Inv-loop μ-loop
-loop-holds c = (omega arith, sym (allBelow-none _))
+loop-holds c = (omega arith, allBelow-none _)
 
 node-at-requires : tie.Need-node-at-requires Inv-loop μ-loop
 node-at-requires c κs = search needs
 
+returns : tie.Need-returns Inv-loop μ-loop
+unfolding siteFormed
+returns c =
+    let no = sym (c .before .node-at .ensures) ∙ not-true _ (c .if1 .taken) in
+    sym (allBelow-fails 4 _ (c .before .before .before .loop .p) (omega arith) (rw no))
+
 channels-formed-requires : tie.Need-channels-formed-requires Inv-loop μ-loop
 channels-formed-requires c κs = search needs
+
+returns-2 : tie.Need-returns-2 Inv-loop μ-loop
+unfolding siteFormed
+returns-2 c =
+    let l = c .before .before .before .before .before in
+    let no = sym (c .before .channels-formed .ensures) ∙ not-true _ (c .if2 .taken) in
+    sym (allBelow-fails 4 _ (l .loop .p) (omega arith) (rw (no, and-false)))
 
 add-p : tie.Need-add-p Inv-loop μ-loop
 add-p c = search needs
@@ -34,15 +48,18 @@ loop-less c = search needs
 
 loop-again : tie.Need-loop-again Inv-loop μ-loop
 loop-again c =
-    let l = c .before .before .before in
-    (omega arith, rw (l .loop .inv .1, c .before .node-at .ensures, c .channels-formed .ensures) (sym (allBelow-step (l .loop .p) _)))
+    let node = c .before .before in
+    let l = node .before .before .before in
+    let yesNode = sym (node .before .node-at .ensures) ∙ not-false _ (node .if1 .left) in
+    let yesChannels = sym (c .before .channels-formed .ensures) ∙ not-false _ (c .if2 .left) in
+    (omega arith, allBelow-more (l .loop .p) _ (l .loop .inv .1) (rw (yesNode, yesChannels)))
 
-returns : tie.Need-returns Inv-loop μ-loop
+returns-3 : tie.Need-returns-3 Inv-loop μ-loop
 unfolding siteFormed
-returns c =
+returns-3 c =
     let l = c .before in
     let e : l .loop .p ≡ 4 = omega arith in
-    rw e at (l .loop .inv .1)
+    sym (rw e at (l .loop .inv .1))
 
 pub site-formed-spec : {M : Type 1} → statement M
 site-formed-spec =
@@ -52,8 +69,10 @@ site-formed-spec =
     μ-loop
     loop-holds
     node-at-requires
+    returns
     channels-formed-requires
+    returns-2
     add-p
     loop-less
     loop-again
-    returns)
+    returns-3)
