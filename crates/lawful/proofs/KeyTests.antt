@@ -61,8 +61,9 @@ module _ (f : ℕ → ℕ) where
   tabulate-more : (n : ℕ) → tabulate (n + 1) f ≡ tabulate n f ++ (f n ∷ [])
   tabulate-more n = tab-more n f f (f n) (λ i l. refl) refl
 
-  -- a function of a list's beginnings and a test of every number below n, when they begin and go on alike
-  counted : (g : List ℕ → Bool) (t : ℕ → Bool) → g [] ≡ true → ((n : ℕ) → g (tabulate n f ++ (f n ∷ [])) ≡ (g (tabulate n f) && t n)) → (n : ℕ) → g (tabulate n f) ≡ allBelow n t
+  -- a test of lists that joins t of each value is the test t of every number below n
+  counted : (g : List ℕ → Bool) (t : ℕ → Bool) → g [] ≡ true → ((n : ℕ) → g (tabulate n f ++ (f n ∷ [])) ≡ (g (tabulate n f) && t n))
+      → (n : ℕ) → g (tabulate n f) ≡ allBelow n t
   unfolding allBelow
   counted g t none more zero = ap g (tab-none f) ∙ none
   counted g t none more (suc n) =

@@ -1,5 +1,5 @@
 -- Lawful values; the facts of a well-formed table; what a step changes is lawful and fits the table; bytes that stay well formed, from records up to
--- the table; a fresh table; all of it together, step by step; and page keys, one more at a time, as the check goes.
+-- the table; a fresh table; all of it together, step by step; and for the check's own code tests that it computed, and page keys.
 pub mod Values
 pub mod Facts
 pub mod Served
@@ -11,4 +11,5 @@ pub mod SessionFormed
 pub mod Keeps
 pub mod Fresh
 pub mod Steps
+pub mod Tested
 pub mod KeyTests

@@ -1,13 +1,13 @@
 -- `lawful::sessions_formed` meets its contract: the first s sessions passed. Assumes nothing.
-use mathlib.Core.Path.{_≡_, sym, _∙_}
+use mathlib.Core.Path.{_≡_, sym}
 use mathlib.Core.Bool.{true}
 use Prim.Native.Nat.{ℕ, _-_, _≤_}
 use native.Mathlib.Omega.{arith}
-use borrow.Author.Tests.{not-true, not-false}
 use Rattle.vector.specs.Vec.{allBelow}
 use Rattle.vector.proofs.Entries.{allBelow-none, allBelow-more, allBelow-fails}
 use Rattle.table.specs.Parts.{sessionOf}
 use Rattle.lawful.specs.WellFormed.{sessionFormed}
+use Rattle.lawful.proofs.Tested.{fails, passes}
 use borrow.Author.Needs.{needs}
 use Rattle.lawful.proofs.sessions_formed.Statement.{statement}
 use Rattle.lawful.proofs.sessions_formed.Tie as tie
@@ -27,7 +27,7 @@ session-at-requires c κs = search needs
 returns : tie.Need-returns Inv-loop μ-loop
 returns c =
     λ parts.
-    let no = sym (c .before .session-at .ensures parts) ∙ not-true _ (c .if1 .taken) in
+    let no = fails (c .before .session-at .ensures parts) (c .if1 .taken) in
     sym (allBelow-fails 16 _ (c .before .before .before .loop .s) (omega arith) no)
 
 add-s : tie.Need-add-s Inv-loop μ-loop
@@ -39,7 +39,7 @@ loop-less c = search needs
 loop-again : tie.Need-loop-again Inv-loop μ-loop
 loop-again c =
     let l = c .before .before .before in
-    (omega arith, λ parts. allBelow-more (l .loop .s) _ (l .loop .inv .1 parts) (sym (c .before .session-at .ensures parts) ∙ not-false _ (c .if1 .left)))
+    (omega arith, λ parts. allBelow-more (l .loop .s) _ (l .loop .inv .1 parts) (passes (c .before .session-at .ensures parts) (c .if1 .left)))
 
 returns-2 : tie.Need-returns-2 Inv-loop μ-loop
 returns-2 c =

@@ -1,13 +1,13 @@
 -- `lawful::sites_formed` meets its contract: the first m sites passed. Assumes nothing.
-use mathlib.Core.Path.{_≡_, sym, _∙_}
+use mathlib.Core.Path.{_≡_, sym}
 use mathlib.Core.Bool.{true}
 use Prim.Native.Nat.{_-_, _≤_}
 use native.Mathlib.Omega.{arith}
-use borrow.Author.Tests.{not-true, not-false}
 use Rattle.vector.specs.Vec.{allBelow}
 use Rattle.vector.proofs.Entries.{allBelow-none, allBelow-more, allBelow-fails}
 use Rattle.table.specs.Parts.{siteOf}
 use Rattle.lawful.specs.WellFormed.{siteFormed}
+use Rattle.lawful.proofs.Tested.{fails, passes}
 use borrow.Author.Needs.{needs}
 use Rattle.lawful.proofs.sites_formed.Statement.{statement}
 use Rattle.lawful.proofs.sites_formed.Tie as tie
@@ -26,7 +26,7 @@ site-at-requires c κs = search needs
 
 returns : tie.Need-returns Inv-loop μ-loop
 returns c =
-    let no = sym (c .before .site-at .ensures) ∙ not-true _ (c .if1 .taken) in
+    let no = fails (c .before .site-at .ensures) (c .if1 .taken) in
     sym (allBelow-fails 4 _ (c .before .before .before .loop .m) (omega arith) no)
 
 add-m : tie.Need-add-m Inv-loop μ-loop
@@ -38,8 +38,7 @@ loop-less c = search needs
 loop-again : tie.Need-loop-again Inv-loop μ-loop
 loop-again c =
     let l = c .before .before .before in
-    let yes = sym (c .before .site-at .ensures) ∙ not-false _ (c .if1 .left) in
-    (omega arith, allBelow-more (l .loop .m) _ (l .loop .inv .1) yes)
+    (omega arith, allBelow-more (l .loop .m) _ (l .loop .inv .1) (passes (c .before .site-at .ensures) (c .if1 .left)))
 
 returns-2 : tie.Need-returns-2 Inv-loop μ-loop
 returns-2 c =

@@ -1,14 +1,14 @@
 -- `lawful::well_formed` meets its contract, whichever test fails first. Assumes nothing.
-use mathlib.Core.Path.{_≡_, sym, subst, _∙_}
+use mathlib.Core.Path.{_≡_, sym, subst}
 use mathlib.Core.Bool.{true, _&&_}
 use Prim.Native.Nat.{_<_}
-use borrow.Author.Tests.{not-true, not-false}
 use lib.Dec.{T, leb, ltb}
 use mir.Facts.{and-yes, ltb-yes}
 use Rattle.protocol.specs.Record.{Setting}
 use Rattle.table.specs.Decode.{settingIn}
 use Rattle.lawful.specs.Values.{settingLawful}
 use Rattle.lawful.specs.WellFormed.{wellFormed}
+use Rattle.lawful.proofs.Tested.{fails, passes}
 use borrow.Author.Needs.{needs}
 use Rattle.lawful.proofs.well_formed.Statement.{statement}
 use Rattle.lawful.proofs.well_formed.Tie as tie
@@ -32,7 +32,7 @@ setting-lawful-requires c κs = search needs
 returns : tie.Need-returns
 unfolding wellFormed settingIn
 returns c =
-    let no = sym (c .before .setting-lawful .ensures) ∙ not-true _ (c .if1 .taken) in
+    let no = fails (c .before .setting-lawful .ensures) (c .if1 .taken) in
     let loads = c .before .before in
     rw (← loads .load-u82 .ensures, ← loads .before .load-u8 .ensures, no)
 
@@ -43,26 +43,26 @@ returns-2 : tie.Need-returns-2
 unfolding wellFormed settingIn
 returns-2 c =
     let at = c .before .before in
-    let yes = sym (at .before .setting-lawful .ensures) ∙ not-false _ (at .if1 .left) in
+    let yes = passes (at .before .setting-lawful .ensures) (at .if1 .left) in
     let parts = at .before .before .load-u82 in
     let sites = at .before .before .before .load-u8 in
-    let no = sym (c .before .sessions-formed .ensures (parts .result)) ∙ not-true _ (c .if2 .taken) in
+    let no = fails (c .before .sessions-formed .ensures (parts .result)) (c .if2 .taken) in
     rw (← parts .ensures, ← sites .ensures, yes, no)
 
 sites-formed-requires : tie.Need-sites-formed-requires
 sites-formed-requires c κs =
     let at = c .before .before in
-    let yes = sym (at .before .setting-lawful .ensures) ∙ not-false _ (at .if1 .left) in
+    let yes = passes (at .before .setting-lawful .ensures) (at .if1 .left) in
     (search needs, parts-some _ yes)
 
 returns-3 : tie.Need-returns-3
 unfolding wellFormed settingIn
 returns-3 c =
     let at = c .before .before .before in
-    let yes = sym (at .before .setting-lawful .ensures) ∙ not-false _ (at .if1 .left) in
+    let yes = passes (at .before .setting-lawful .ensures) (at .if1 .left) in
     let parts = at .before .before .load-u82 in
     let sites = at .before .before .before .load-u8 in
-    let yesSessions = sym (c .before .before .sessions-formed .ensures (parts .result)) ∙ not-false _ (c .before .if2 .left) in
+    let yesSessions = passes (c .before .before .sessions-formed .ensures (parts .result)) (c .before .if2 .left) in
     rw (← parts .ensures, ← sites .ensures, yes, yesSessions, c .sites-formed .ensures)
 
 pub well-formed-spec : {M : Type 1} → statement M

@@ -1,9 +1,9 @@
 -- `lawful::nodes::node_formed` meets its contract, whichever test fails first. Assumes nothing.
-use mathlib.Core.Path.{sym, _∙_}
 use mathlib.Core.Bool.{and-false}
-use borrow.Author.Tests.{not-true, not-false, lt-leb, le-leb}
+use borrow.Author.Tests.{lt-leb, le-leb}
 use Rattle.table.specs.Node.{heardIn}
 use Rattle.lawful.specs.WellFormed.{nodeFormed}
+use Rattle.lawful.proofs.Tested.{fails, passes}
 use borrow.Author.Needs.{needs}
 use Rattle.lawful.proofs.nodes.node_formed.Statement.{statement}
 use Rattle.lawful.proofs.nodes.node_formed.Tie as tie
@@ -29,7 +29,7 @@ time-lawful-requires c κs = search needs
 returns-2 : tie.Need-returns-2
 unfolding nodeFormed
 returns-2 c =
-    let no = sym (c .before .time-lawful .ensures) ∙ not-true _ (c .if2 .taken) in
+    let no = fails (c .before .time-lawful .ensures) (c .if2 .taken) in
     rw (← c .before .before .clock .ensures, no)
 
 vector-formed-requires : tie.Need-vector-formed-requires
@@ -40,7 +40,7 @@ unfolding nodeFormed heardIn
 returns-3 c =
     let at = c .before .before .before .before .before in
     let parts = at .before .before .before .before .args .parts in
-    let no = sym (c .before .vector-formed .ensures parts) ∙ not-true _ (c .if3 .taken) in
+    let no = fails (c .before .vector-formed .ensures parts) (c .if3 .taken) in
     rw (no, and-false)
 
 records-formed-requires : tie.Need-records-formed-requires
@@ -55,8 +55,8 @@ returns-4 c =
     let held = at .before .before .held .ensures in
     let few = rw (at .before .most .ensures .0, held) at (at .if1 .left) in
     let parts = at .before .before .before .before .args .parts in
-    let yesVec = sym (vec .before .vector-formed .ensures parts) ∙ not-false _ (vec .if3 .left) in
-    let yesTime = sym (time .before .time-lawful .ensures) ∙ not-false _ (time .if2 .left) in
+    let yesVec = passes (vec .before .vector-formed .ensures parts) (vec .if3 .left) in
+    let yesTime = passes (time .before .time-lawful .ensures) (time .if2 .left) in
     rw (le-leb _ _ few, c .records-formed .ensures, yesVec, ← time .before .before .clock .ensures, yesTime, held)
 
 pub node-formed-spec : {M : Type 1} → statement M

@@ -3,8 +3,9 @@ use mathlib.Core.Path.{_≡_, sym, _∙_}
 use mathlib.Core.Bool.{true, false}
 use Prim.Native.Nat.{ℕ}
 use native.Mathlib.Omega.{arith}
-use borrow.Author.Tests.{not-true, not-false, lt-ltb, le-ltb, ne-eqb}
+use borrow.Author.Tests.{lt-ltb, le-ltb, ne-eqb}
 use lib.Dec.{ltb}
+use Rattle.lawful.proofs.Tested.{fails, passes}
 use borrow.Author.Needs.{needs}
 use Rattle.lawful.proofs.pages.page_keys.Statement.{statement}
 use Rattle.lawful.proofs.pages.page_keys.Tie as tie
@@ -34,7 +35,7 @@ returns-3 : tie.Need-returns-3
 returns-3 c =
     let at = c .before .before .before in
     let isOpen = sym (at .before .load-u8 .ensures) ∙ at .if1 .left in
-    let no = sym (c .before .keys-lawful .ensures) ∙ not-true _ (c .if3 .taken) in
+    let no = fails (c .before .keys-lawful .ensures) (c .if3 .taken) in
     rw (isOpen, some-key _ (c .before .before .if2 .left), no)
 
 keys-differ-requires : tie.Need-keys-differ-requires
@@ -45,7 +46,7 @@ returns-4 c =
     let some = c .before .before .before in
     let at = some .before in
     let isOpen = sym (at .before .load-u8 .ensures) ∙ at .if1 .left in
-    let yes = sym (c .before .before .keys-lawful .ensures) ∙ not-false _ (c .before .if3 .left) in
+    let yes = passes (c .before .before .keys-lawful .ensures) (c .before .if3 .left) in
     rw (isOpen, some-key _ (some .if2 .left), yes, c .keys-differ .ensures)
 
 pub page-keys-spec : {M : Type 1} → statement M

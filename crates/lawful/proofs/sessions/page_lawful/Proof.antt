@@ -1,7 +1,7 @@
 -- `lawful::sessions::page_lawful` meets its contract, whichever test fails first. Assumes nothing.
-use mathlib.Core.Path.{sym, _∙_}
 use mathlib.Core.Bool.{and-false}
-use borrow.Author.Tests.{not-true, not-false, lt-leb, le-leb}
+use borrow.Author.Tests.{lt-leb, le-leb}
+use Rattle.lawful.proofs.Tested.{fails, passes}
 use Rattle.lawful.proofs.KeyTests.{pageLawful-in}
 use borrow.Author.Needs.{needs}
 use Rattle.lawful.proofs.sessions.page_lawful.Statement.{statement}
@@ -20,7 +20,7 @@ returns-2 : tie.Need-returns-2
 returns-2 c =
     λ parts.
     let count = c .before .before .before .load-u8 .ensures in
-    let no = rw count at (sym (c .before .page-keys .ensures) ∙ not-true _ (c .if2 .taken)) in
+    let no = rw count at (fails (c .before .page-keys .ensures) (c .if2 .taken)) in
     rw (pageLawful-in, no, and-false)
 
 vector-formed-requires : tie.Need-vector-formed-requires
@@ -29,7 +29,7 @@ vector-formed-requires c κs = search needs
 returns-3 : tie.Need-returns-3
 returns-3 c =
     λ parts.
-    let no = sym (c .before .vector-formed .ensures parts) ∙ not-true _ (c .if3 .taken) in
+    let no = fails (c .before .vector-formed .ensures parts) (c .if3 .taken) in
     rw (pageLawful-in, no, and-false, and-false)
 
 vector-formed-requires-2 : tie.Need-vector-formed-requires-2
@@ -42,8 +42,8 @@ returns-4 c =
     let at = keys .before .before in
     let count = at .before .load-u8 .ensures in
     let few = rw count at (at .if1 .left) in
-    let yesKeys = rw count at (sym (keys .before .page-keys .ensures) ∙ not-false _ (keys .if2 .left)) in
-    let yesVec = sym (c .before .before .vector-formed .ensures parts) ∙ not-false _ (c .before .if3 .left) in
+    let yesKeys = rw count at (passes (keys .before .page-keys .ensures) (keys .if2 .left)) in
+    let yesVec = passes (c .before .before .vector-formed .ensures parts) (c .before .if3 .left) in
     rw (pageLawful-in, le-leb _ 8 few, yesKeys, yesVec, c .vector-formed2 .ensures parts)
 
 pub page-lawful-spec : {M : Type 1} → statement M

@@ -1,10 +1,10 @@
 -- `lawful::sessions::session_formed` meets its contract, whichever test fails first. Assumes nothing.
-use mathlib.Core.Path.{sym, _∙_}
 use mathlib.Core.Bool.{and-false}
-use borrow.Author.Tests.{not-true, not-false, lt-ltb, le-ltb}
+use borrow.Author.Tests.{lt-ltb, le-ltb}
 use Rattle.table.specs.Session.{sessionIn}
 use Rattle.lawful.specs.Values.{sessionLawful}
 use Rattle.lawful.specs.WellFormed.{sessionFormed}
+use Rattle.lawful.proofs.Tested.{fails, passes}
 use borrow.Author.Needs.{needs}
 use Rattle.lawful.proofs.sessions.session_formed.Statement.{statement}
 use Rattle.lawful.proofs.sessions.session_formed.Tie as tie
@@ -30,7 +30,7 @@ returns-3 : tie.Need-returns-3
 unfolding sessionFormed sessionLawful sessionIn
 returns-3 c =
     λ parts.
-    let no = sym (c .before .site-lawful .ensures) ∙ not-true _ (c .if3 .taken) in
+    let no = fails (c .before .site-lawful .ensures) (c .if3 .taken) in
     rw (no, and-false)
 
 flags-formed-requires : tie.Need-flags-formed-requires
@@ -40,7 +40,7 @@ returns-4 : tie.Need-returns-4
 unfolding sessionFormed
 returns-4 c =
     λ parts.
-    let no = sym (c .before .flags-formed .ensures) ∙ not-true _ (c .if4 .taken) in
+    let no = fails (c .before .flags-formed .ensures) (c .if4 .taken) in
     rw (no, and-false, and-false)
 
 vector-formed-requires : tie.Need-vector-formed-requires
@@ -50,7 +50,7 @@ returns-5 : tie.Need-returns-5
 unfolding sessionFormed sessionLawful sessionIn
 returns-5 c =
     λ parts.
-    let no = sym (c .before .vector-formed .ensures parts) ∙ not-true _ (c .if5 .taken) in
+    let no = fails (c .before .vector-formed .ensures parts) (c .if5 .taken) in
     rw (no, and-false, and-false)
 
 page-lawful-requires : tie.Need-page-lawful-requires
@@ -67,9 +67,9 @@ returns-6 c =
     let isOpen = paged .before .before in
     let yesOpen = lt-ltb _ 2 (rw (isOpen .before .load-u8 .ensures) at (isOpen .if1 .left)) in
     let yesPaged = lt-ltb _ 2 (rw (paged .before .load-u82 .ensures) at (paged .if2 .left)) in
-    let yesSite = sym (site .before .site-lawful .ensures) ∙ not-false _ (site .if3 .left) in
-    let yesMarks = sym (marks .before .flags-formed .ensures) ∙ not-false _ (marks .if4 .left) in
-    let yesVec = sym (vec .before .vector-formed .ensures parts) ∙ not-false _ (vec .if5 .left) in
+    let yesSite = passes (site .before .site-lawful .ensures) (site .if3 .left) in
+    let yesMarks = passes (marks .before .flags-formed .ensures) (marks .if4 .left) in
+    let yesVec = passes (vec .before .vector-formed .ensures parts) (vec .if5 .left) in
     rw (yesOpen, yesPaged, yesSite, yesMarks, yesVec, c .page-lawful .ensures parts)
 
 pub session-formed-spec : {M : Type 1} → statement M

@@ -1,19 +1,20 @@
 -- `lawful::sites::channels_formed` meets its contract: the first d channels passed. Assumes nothing.
-use mathlib.Core.Path.{_≡_, sym, _∙_}
+use mathlib.Core.Path.{_≡_, sym}
 use mathlib.Core.Bool.{true}
 use Prim.Native.Nat.{_-_, _≤_}
 use native.Mathlib.Omega.{arith}
-use borrow.Author.Tests.{not-true, not-false}
 use Rattle.vector.specs.Vec.{allBelow}
 use Rattle.vector.proofs.Entries.{allBelow-none, allBelow-more, allBelow-fails}
 use Rattle.table.specs.Parts.{channelOf}
 use Rattle.lawful.specs.WellFormed.{channelFormed}
+use Rattle.lawful.proofs.Tested.{fails, passes}
 use borrow.Author.Needs.{needs}
 use Rattle.lawful.proofs.sites.channels_formed.Statement.{statement}
 use Rattle.lawful.proofs.sites.channels_formed.Tie as tie
 
 abbrev Inv-loop : tie.InvT-loop
-Inv-loop site sites parts m p d₀ d = (d ≤ 3) × (allBelow d (λ k. channelFormed (record { sites = sites; parts = parts }) m p k (channelOf site p k)) ≡ true)
+Inv-loop site sites parts m p d₀ d =
+    (d ≤ 3) × (allBelow d (λ k. channelFormed (record { sites = sites; parts = parts }) m p k (channelOf site p k)) ≡ true)
 
 abbrev μ-loop : tie.MeasureT-loop
 μ-loop site sites parts m p d₀ d = 3 - d
@@ -26,7 +27,7 @@ channel-at-requires c κs = search needs
 
 returns : tie.Need-returns Inv-loop μ-loop
 returns c =
-    let no = sym (c .before .channel-at .ensures) ∙ not-true _ (c .if1 .taken) in
+    let no = fails (c .before .channel-at .ensures) (c .if1 .taken) in
     sym (allBelow-fails 3 _ (c .before .before .before .loop .d) (omega arith) no)
 
 add-d : tie.Need-add-d Inv-loop μ-loop
@@ -38,8 +39,7 @@ loop-less c = search needs
 loop-again : tie.Need-loop-again Inv-loop μ-loop
 loop-again c =
     let l = c .before .before .before in
-    let yes = sym (c .before .channel-at .ensures) ∙ not-false _ (c .if1 .left) in
-    (omega arith, allBelow-more (l .loop .d) _ (l .loop .inv .1) yes)
+    (omega arith, allBelow-more (l .loop .d) _ (l .loop .inv .1) (passes (c .before .channel-at .ensures) (c .if1 .left)))
 
 returns-2 : tie.Need-returns-2 Inv-loop μ-loop
 returns-2 c =

@@ -1,19 +1,22 @@
 -- `lawful::sites::site_formed` meets its contract: the first p partitions passed. Assumes nothing.
-use mathlib.Core.Path.{_≡_, sym, _∙_}
+use mathlib.Core.Path.{_≡_, sym}
 use mathlib.Core.Bool.{true, _&&_, and-false}
 use Prim.Native.Nat.{_-_, _≤_}
 use native.Mathlib.Omega.{arith}
-use borrow.Author.Tests.{not-true, not-false}
 use Rattle.vector.specs.Vec.{allBelow}
 use Rattle.vector.proofs.Entries.{allBelow-none, allBelow-more, allBelow-fails}
+use Rattle.protocol.specs.Record.{Setting}
 use Rattle.table.specs.Parts.{nodeOf, channelOf}
 use Rattle.lawful.specs.WellFormed.{nodeFormed, channelFormed, siteFormed}
+use Rattle.lawful.proofs.Tested.{fails, passes}
 use borrow.Author.Needs.{needs}
 use Rattle.lawful.proofs.sites.site_formed.Statement.{statement}
 use Rattle.lawful.proofs.sites.site_formed.Tie as tie
 
 abbrev Inv-loop : tie.InvT-loop
-Inv-loop site sites parts m p₀ p = (p ≤ 4) × (allBelow p (λ k. nodeFormed (record { sites = sites; parts = parts }) m k (nodeOf site k) && allBelow 3 (λ d. channelFormed (record { sites = sites; parts = parts }) m k d (channelOf site k d))) ≡ true)
+Inv-loop site sites parts m p₀ p =
+    let c : Setting = record { sites = sites; parts = parts } in
+    (p ≤ 4) × (allBelow p (λ k. nodeFormed c m k (nodeOf site k) && allBelow 3 (λ d. channelFormed c m k d (channelOf site k d))) ≡ true)
 
 abbrev μ-loop : tie.MeasureT-loop
 μ-loop site sites parts m p₀ p = 4 - p
@@ -27,7 +30,7 @@ node-at-requires c κs = search needs
 returns : tie.Need-returns Inv-loop μ-loop
 unfolding siteFormed
 returns c =
-    let no = sym (c .before .node-at .ensures) ∙ not-true _ (c .if1 .taken) in
+    let no = fails (c .before .node-at .ensures) (c .if1 .taken) in
     sym (allBelow-fails 4 _ (c .before .before .before .loop .p) (omega arith) (rw no))
 
 channels-formed-requires : tie.Need-channels-formed-requires Inv-loop μ-loop
@@ -37,7 +40,7 @@ returns-2 : tie.Need-returns-2 Inv-loop μ-loop
 unfolding siteFormed
 returns-2 c =
     let l = c .before .before .before .before .before in
-    let no = sym (c .before .channels-formed .ensures) ∙ not-true _ (c .if2 .taken) in
+    let no = fails (c .before .channels-formed .ensures) (c .if2 .taken) in
     sym (allBelow-fails 4 _ (l .loop .p) (omega arith) (rw (no, and-false)))
 
 add-p : tie.Need-add-p Inv-loop μ-loop
@@ -50,8 +53,8 @@ loop-again : tie.Need-loop-again Inv-loop μ-loop
 loop-again c =
     let node = c .before .before in
     let l = node .before .before .before in
-    let yesNode = sym (node .before .node-at .ensures) ∙ not-false _ (node .if1 .left) in
-    let yesChannels = sym (c .before .channels-formed .ensures) ∙ not-false _ (c .if2 .left) in
+    let yesNode = passes (node .before .node-at .ensures) (node .if1 .left) in
+    let yesChannels = passes (c .before .channels-formed .ensures) (c .if2 .left) in
     (omega arith, allBelow-more (l .loop .p) _ (l .loop .inv .1) (rw (yesNode, yesChannels)))
 
 returns-3 : tie.Need-returns-3 Inv-loop μ-loop
