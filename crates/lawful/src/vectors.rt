@@ -1,12 +1,12 @@
-// "clocks, vectors and stamps are within the time limit and entries of absent sites are 0". In order: a time, an entry and its limit, a vector,
-// and a vector without an entry above a number. Assumes nothing.
+// "clocks, vectors and stamps are within the time limit and entries of absent sites are 0". In order: a time, an entry and its limit, a vector
+// by value and in bytes, and one without an entry above a number. Assumes nothing.
 ghost use mathlib.Core.Path.{_≡_};
 ghost use mathlib.Core.Bool.{cond};
 ghost use Prim.Native.Nat.{ℕ, _+_, _≤_};
 ghost use lib.Dec.{ltb, leb, eqb};
 ghost use lib.ListN.{length};
 ghost use Rattle.vector.specs.Vec.{width, allBelow};
-ghost use Rattle.vector.specs.Entries.{loadVec};
+ghost use Rattle.vector.specs.Entries.{entry, loadVec};
 ghost use Rattle.lawful.specs.Values.{timeLawful, vecLawful};
 use vector::Vector;
 
@@ -33,19 +33,27 @@ pub fn entry_lawful(x: u64, i: usize, sites: u8) -> bool
     x < entry_limit(i, sites)
 }
 
-// The vector at `at`. Of the setting only the number of sites is asked.
-pub fn vector_formed(b: &[u8], at: usize, sites: u8) -> bool
-    requires { ⌜ at + 32 ≤ length (now b) ⌝ }
-    ensures { λ r. ⌜ ((parts : ℕ) → r ≡ vecLawful (record { sites = sites; parts = parts }) (loadVec (now (b .entry)) at)) ⌝ }
+// Of the setting only the number of sites is asked.
+pub fn vector_lawful(v: Vector, sites: u8) -> bool
+    ensures { λ r. ⌜ ((parts : ℕ) → r ≡ vecLawful (record { sites = sites; parts = parts }) (entry (v .e))) ⌝ }
 {
+    let e = v.e;
     let mut i = 0;
     while i < Vector::WIDTH {
-        if !entry_lawful(codec::load_u64(b, at + 8 * i), i, sites) {
+        if !entry_lawful(e[i], i, sites) {
             return false;
         }
         i += 1;
     }
     true
+}
+
+// The vector at `at`.
+pub fn vector_formed(b: &[u8], at: usize, sites: u8) -> bool
+    requires { ⌜ at + 32 ≤ length (now b) ⌝ }
+    ensures { λ r. ⌜ ((parts : ℕ) → r ≡ vecLawful (record { sites = sites; parts = parts }) (loadVec (now (b .entry)) at)) ⌝ }
+{
+    vector_lawful(vector::load_vector(b, at), sites)
 }
 
 // No entry of the vector at `at` is above x.

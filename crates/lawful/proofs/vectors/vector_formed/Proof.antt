@@ -1,85 +1,17 @@
--- `lawful::vectors::vector_formed` meets its contract: the first i entries are lawful. Assumes nothing.
-use mathlib.Core.Path.{_≡_, refl, sym, _∙_}
-use mathlib.Core.Bool.{true, cond}
-use Prim.Native.Nat.{_-_, _≤_}
-use native.Mathlib.Omega.{arith}
-use borrow.Author.Tests.{not-true, not-false}
-use lib.Dec.{ltb, eqb}
-use Rattle.vector.specs.Vec.{width, allBelow}
-use Rattle.vector.specs.Entries.{loadVec}
-use Rattle.vector.proofs.Entries.{allBelow-none, allBelow-more, allBelow-fails, loadVec-below}
-use Rattle.lawful.specs.Values.{timeLawful, vecLawful}
+-- `lawful::vectors::vector_formed` meets its contract: what was loaded are the entries. Assumes nothing.
+use Rattle.table.proofs.Values.{entry-loadVec}
 use borrow.Author.Needs.{needs}
 use Rattle.lawful.proofs.vectors.vector_formed.Statement.{statement}
 use Rattle.lawful.proofs.vectors.vector_formed.Tie as tie
 
-abbrev Inv-loop : tie.InvT-loop
-Inv-loop b at sites i₀ i = (i ≤ 4) × (allBelow i (λ k. cond (ltb k sites) (timeLawful (loadVec b at k)) (eqb (loadVec b at k) 0)) ≡ true)
+load-vector-requires : tie.Need-load-vector-requires
+load-vector-requires c κs = search needs
 
-abbrev μ-loop : tie.MeasureT-loop
-μ-loop b at sites i₀ i = 4 - i
+vector-lawful-requires : tie.Need-vector-lawful-requires
+vector-lawful-requires c κs = search needs
 
-loop-holds : tie.Need-loop-holds Inv-loop μ-loop
-loop-holds c = (omega arith, allBelow-none _)
-
-mul-load-u64 : tie.Need-mul-load-u64 Inv-loop μ-loop
-mul-load-u64 c = search needs
-
-add-load-u64 : tie.Need-add-load-u64 Inv-loop μ-loop
-add-load-u64 c = search needs
-
-load-u64-requires : tie.Need-load-u64-requires Inv-loop μ-loop
-load-u64-requires c κs = search needs
-
-entry-lawful-requires : tie.Need-entry-lawful-requires Inv-loop μ-loop
-entry-lawful-requires c κs = search needs
-
-returns : tie.Need-returns Inv-loop μ-loop
-unfolding width vecLawful
-returns c =
-    λ parts.
-    let l = c .before .before .before .before in
-    let a = l .before .before .args in
-    let here = loadVec-below (a .b .now) (a .at) (l .loop .i) (omega arith) in
-    let no = sym (c .before .entry-lawful .ensures) ∙ not-true _ (c .if1 .taken) in
-    sym (allBelow-fails 4 _ (l .loop .i) (omega arith) (rw (here, ← c .before .before .load-u64 .ensures) no))
-
-add-i : tie.Need-add-i Inv-loop μ-loop
-add-i c = search needs
-
-loop-less : tie.Need-loop-less Inv-loop μ-loop
-loop-less c = search needs
-
-loop-again : tie.Need-loop-again Inv-loop μ-loop
-unfolding width
-loop-again c =
-    let l = c .before .before .before .before in
-    let a = l .before .before .args in
-    let here = loadVec-below (a .b .now) (a .at) (l .loop .i) (omega arith) in
-    let yes = sym (c .before .entry-lawful .ensures) ∙ not-false _ (c .if1 .left) in
-    (omega arith, allBelow-more (l .loop .i) _ (l .loop .inv .1) (rw (here, ← c .before .before .load-u64 .ensures) yes))
-
-returns-2 : tie.Need-returns-2 Inv-loop μ-loop
-unfolding width vecLawful
-returns-2 c =
-    λ parts.
-    let l = c .before in
-    let e : l .loop .i ≡ 4 = omega arith in
-    sym (rw e at (l .loop .inv .1))
+returns : tie.Need-returns
+returns c = λ parts. rw (c .vector-lawful .ensures parts, c .before .load-vector .ensures, entry-loadVec)
 
 pub vector-formed-spec : {M : Type 1} → statement M
-vector-formed-spec =
-    tie.close
-    (tie.spec
-    Inv-loop
-    μ-loop
-    loop-holds
-    mul-load-u64
-    add-load-u64
-    load-u64-requires
-    entry-lawful-requires
-    returns
-    add-i
-    loop-less
-    loop-again
-    returns-2)
+vector-formed-spec = tie.close (tie.spec load-vector-requires vector-lawful-requires returns)
