@@ -30,6 +30,9 @@ pub fn channel_formed(b: &[u8], sites: u8, parts: u8, i: u8, p: u8, d: u8) -> bo
     ensures { λ r. ⌜ r ≡ channelFormed (record { sites = sites; parts = parts }) i p d (now (b .entry)) ⌝ }
 {
     let wait = table::channels::waiting(b);
+    if wait == 0 {
+        return true;
+    }
     if nodes::most(((i < sites) & (p < parts)) & (d + 1 < sites), 8) < wait {
         return false;
     }
