@@ -6,6 +6,7 @@ use Prim.Native.Nat.{ℕ, zero, suc, _<_}
 use native.Mathlib.Omega.{arith}
 use lib.Dec.{T}
 use Rattle.vector.specs.Vec.{allBelow}
+use Rattle.vector.proofs.Tests.{and-swap}
 
 -- ---- single tests
 
@@ -29,12 +30,6 @@ either-yes false true a t f g = g tt
 -- and where u does, a
 pub used-yes : (u z a : Bool) → T u → T ((u || z) && (not u || a)) → T a
 used-yes true z a h t = t
-
-pub and-swap : (a b c d : Bool) → (a && b && (c && d)) ≡ (a && c && (b && d))
-and-swap true true c d = refl
-and-swap true false true d = refl
-and-swap true false false d = refl
-and-swap false b c d = refl
 
 pub and-turn : (a b c : Bool) → (a && b && c) ≡ (a && c && b)
 and-turn a b c = and-assoc a b c ∙ ap (λ (d : Bool). a && d) (and-comm b c) ∙ sym (and-assoc a c b)

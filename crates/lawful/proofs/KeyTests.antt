@@ -11,6 +11,7 @@ use lib.Dec.{leb, ltb, eqb}
 use Rattle.codec.specs.Le.{load}
 use Rattle.vector.specs.Vec.{allBelow}
 use Rattle.vector.specs.Entries.{loadVec}
+use Rattle.vector.proofs.Tests.{and-swap}
 use Rattle.protocol.specs.Record.{Setting}
 use Rattle.protocol.specs.State.{Mark}
 use Rattle.protocol.specs.Needs.{keysLawful, holdsKey, distinct}
@@ -69,19 +70,21 @@ module _ (f : ℕ → ℕ) where
   counted g t none more (suc n) =
       ap (λ (k : ℕ). g (tabulate k f)) (sym (add-one n)) ∙ ap g (tabulate-more n) ∙ more n ∙ ap (λ (b : Bool). b && t n) (counted g t none more n)
 
-  pub keysLawful-all : (n : ℕ) → keysLawful (tabulate n f) ≡ allBelow n (λ i. ltb (f i) 64)
-  unfolding keysLawful
-  keysLawful-all n = counted keysLawful (λ i. ltb (f i) 64) refl (λ m. keysLawful-snoc (tabulate m f) (f m)) n
-
   pub holdsKey-all : (k n : ℕ) → not (holdsKey k (tabulate n f)) ≡ allBelow n (λ i. not (eqb (f i) k))
   unfolding holdsKey
   holdsKey-all k n =
       counted (λ ks. not (holdsKey k ks)) (λ i. not (eqb (f i) k)) refl
       (λ m. ap not (holdsKey-snoc k (tabulate m f) (f m)) ∙ neither (holdsKey k (tabulate m f)) (eqb (f m) k)) n
 
-  pub distinct-all : (n : ℕ) → distinct (tabulate n f) ≡ allBelow n (λ i. not (holdsKey (f i) (tabulate i f)))
-  unfolding distinct
-  distinct-all n = counted distinct (λ i. not (holdsKey (f i) (tabulate i f))) refl (λ m. distinct-snoc (tabulate m f) (f m)) n
+  -- each key is in range, and none of those before it
+  pub keys-all : (n : ℕ) → (keysLawful (tabulate n f) && distinct (tabulate n f)) ≡ allBelow n (λ i. ltb (f i) 64 && not (holdsKey (f i) (tabulate i f)))
+  unfolding keysLawful distinct
+  keys-all n =
+      counted (λ ks. keysLawful ks && distinct ks) (λ i. ltb (f i) 64 && not (holdsKey (f i) (tabulate i f))) refl
+      (λ m.
+      rw (keysLawful-snoc (tabulate m f) (f m), distinct-snoc (tabulate m f) (f m))
+      (and-swap (keysLawful (tabulate m f)) (ltb (f m) 64) (distinct (tabulate m f)) (not (holdsKey (f m) (tabulate m f)))))
+      n
 
 -- ---- a session's page
 

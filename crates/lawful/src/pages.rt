@@ -1,5 +1,5 @@
-// "an open page has 1 to 8 different keys, each 0 to 63". In order: the range of keys, whether a key is one of some, whether keys differ, the keys of
-// a session's page. Assumes nothing.
+// "an open page has 1 to 8 different keys, each 0 to 63". In order: whether a key is one of some, the keys that some
+// bytes are, the keys of a session's page. Assumes nothing.
 ghost use mathlib.Core.Path.{_≡_};
 ghost use mathlib.Core.Bool.{not, _&&_, _||_};
 ghost use Prim.Native.Nat.{_+_, _≤_};
@@ -8,21 +8,6 @@ ghost use lib.ListN.{length};
 ghost use Rattle.codec.specs.Le.{load};
 ghost use Rattle.protocol.specs.Needs.{keysLawful, holdsKey, distinct};
 ghost use Rattle.table.specs.Tabulate.{tabulate};
-
-// The n keys from `at` are 0 to 63.
-pub fn keys_lawful(b: &[u8], at: usize, n: usize) -> bool
-    requires { ⌜ at + n ≤ length (now b) ⌝ }
-    ensures { λ r. ⌜ r ≡ keysLawful (tabulate n (λ i. load 1 (now (b .entry)) (at + i))) ⌝ }
-{
-    let mut i = 0;
-    while i < n {
-        if 64 <= codec::load_u8(b, at + i) {
-            return false;
-        }
-        i += 1;
-    }
-    true
-}
 
 // The key k is one of the n from `at`.
 pub fn holds_key(b: &[u8], at: usize, n: usize, k: u8) -> bool
@@ -39,14 +24,17 @@ pub fn holds_key(b: &[u8], at: usize, n: usize, k: u8) -> bool
     false
 }
 
-// The n keys from `at` differ: none is one of those before it.
-pub fn keys_differ(b: &[u8], at: usize, n: usize) -> bool
+// The n keys from `at` are 0 to 63 and differ: none is one of those before it.
+pub fn keys_formed(b: &[u8], at: usize, n: usize) -> bool
     requires { ⌜ at + n ≤ length (now b) ⌝ }
-    ensures { λ r. ⌜ r ≡ distinct (tabulate n (λ i. load 1 (now (b .entry)) (at + i))) ⌝ }
+    ensures { λ r. ⌜ r ≡ (keysLawful (tabulate n (λ i. load 1 (now (b .entry)) (at + i))) && distinct (tabulate n (λ i. load 1 (now (b .entry)) (at + i)))) ⌝ }
 {
     let mut i = 0;
     while i < n {
         let k = codec::load_u8(b, at + i);
+        if 64 <= k {
+            return false;
+        }
         if holds_key(b, at, i, k) {
             return false;
         }
@@ -66,9 +54,5 @@ pub fn page_keys(b: &[u8], count: u8) -> bool
     if count == 0 {
         return false;
     }
-    let n = count as usize;
-    if !keys_lawful(b, 8, n) {
-        return false;
-    }
-    keys_differ(b, 8, n)
+    keys_formed(b, 8, count as usize)
 }

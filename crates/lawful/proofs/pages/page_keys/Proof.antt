@@ -5,7 +5,6 @@ use Prim.Native.Nat.{ℕ}
 use native.Mathlib.Omega.{arith}
 use borrow.Author.Tests.{lt-ltb, le-ltb, ne-eqb}
 use lib.Dec.{ltb}
-use Rattle.lawful.proofs.Tested.{fails, passes}
 use borrow.Author.Needs.{needs}
 use Rattle.lawful.proofs.pages.page_keys.Statement.{statement}
 use Rattle.lawful.proofs.pages.page_keys.Tie as tie
@@ -28,35 +27,16 @@ returns-2 c =
     let isOpen = sym (at .before .load-u8 .ensures) ∙ at .if1 .left in
     rw (isOpen, no-key _ (c .if2 .taken))
 
-keys-lawful-requires : tie.Need-keys-lawful-requires
-keys-lawful-requires c κs = search needs
+keys-formed-requires : tie.Need-keys-formed-requires
+keys-formed-requires c κs = search needs
 
 returns-3 : tie.Need-returns-3
 returns-3 c =
-    let at = c .before .before .before in
-    let isOpen = sym (at .before .load-u8 .ensures) ∙ at .if1 .left in
-    let no = fails (c .before .keys-lawful .ensures) (c .if3 .taken) in
-    rw (isOpen, some-key _ (c .before .before .if2 .left), no)
-
-keys-differ-requires : tie.Need-keys-differ-requires
-keys-differ-requires c κs = search needs
-
-returns-4 : tie.Need-returns-4
-returns-4 c =
-    let some = c .before .before .before in
+    let some = c .before in
     let at = some .before in
     let isOpen = sym (at .before .load-u8 .ensures) ∙ at .if1 .left in
-    let yes = passes (c .before .before .keys-lawful .ensures) (c .before .if3 .left) in
-    rw (isOpen, some-key _ (some .if2 .left), yes, c .keys-differ .ensures)
+    rw (isOpen, some-key _ (some .if2 .left)) (c .keys-formed .ensures)
 
 pub page-keys-spec : {M : Type 1} → statement M
 page-keys-spec =
-    tie.close
-    (tie.spec
-    load-u8-requires
-    returns
-    returns-2
-    keys-lawful-requires
-    returns-3
-    keys-differ-requires
-    returns-4)
+    tie.close (tie.spec load-u8-requires returns returns-2 keys-formed-requires returns-3)
