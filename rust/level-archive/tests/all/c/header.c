@@ -1,4 +1,4 @@
-/* Prints what the header's helpers give, for tests/all/c.rs to compare: the texts, the events, sizes and places, an answer out of bytes. */
+/* Prints what the header's functions give, for tests/all/c.rs to compare: the texts, the events, sizes and places, an answer out of bytes. */
 #include <inttypes.h>
 #include <stdio.h>
 
