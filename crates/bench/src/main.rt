@@ -1,11 +1,90 @@
 // The bench of document 01: events from standard input go into an archive of 4 sites and 4 partitions, and a line for each goes to standard output.
-// In order: lines, whose text is in `text`, and the reading in pieces of 64 KiB. No contract can say what is read or written. Assumes nothing.
+// In order: the text of a line, lines, the reading in pieces of 64 KiB. Text goes behind what is there; where the output has no room left nothing is
+// written, and `room` sees to it that there is. No contract can say what is read or written. Assumes nothing.
 ghost use Prim.Native.Nat.{_+_, _*_, _≤_};
 ghost use lib.ListN.{length};
 use libc::STDIN_FILENO;
 use libc::STDOUT_FILENO;
 
-mod text;
+// One more byte.
+fn put(out: &mut [u8; 65536], at: usize, b: u8) -> usize {
+    if at < out.len() {
+        out[at] = b;
+        at + 1
+    } else {
+        at
+    }
+}
+
+fn put_word(out: &mut [u8; 65536], at: usize, word: &[u8]) -> usize {
+    let mut to = at;
+    let mut i = 0;
+    while i < word.len() {
+        to = put(out, to, word[i]);
+        i += 1;
+    }
+    to
+}
+
+// How many decimal digits x has: at most 20.
+fn places(x: u64) -> usize
+    ensures { λ r. ⌜ r ≤ 20 ⌝ }
+{
+    let mut y = x;
+    let mut n = 1;
+    while n < 20 {
+        if y < 10 {
+            return n;
+        }
+        y = y / 10;
+        n += 1;
+    }
+    n
+}
+
+// The last digit of x.
+fn digit(x: u64) -> u8 {
+    (48 + x % 10) as u8
+}
+
+// The digits go where they belong from the last to the first; most numbers of a line have just one.
+fn put_number(out: &mut [u8; 65536], at: usize, x: u64) -> usize {
+    if x < 10 {
+        return put(out, at, digit(x));
+    }
+    if 65516 < at {
+        return at;
+    }
+    let n = places(x);
+    let mut y = x;
+    let mut i = n;
+    while 0 < i {
+        i -= 1;
+        out[at + i] = digit(y);
+        y = y / 10;
+    }
+    at + n
+}
+
+// A space, and a number.
+fn put_next(out: &mut [u8; 65536], at: usize, x: u64) -> usize {
+    let to = put(out, at, b' ');
+    put_number(out, to, x)
+}
+
+// A level without its sign.
+fn size(x: i32) -> u64 {
+    let w = x as i64;
+    if w < 0 { (-w) as u64 } else { w as u64 }
+}
+
+fn put_level(out: &mut [u8; 65536], at: usize, x: i32) -> usize {
+    let mut to = put(out, at, b' ');
+    if x < 0 {
+        to = put(out, to, b'-');
+    }
+    put_number(out, to, size(x))
+}
 
 fn wide(x: u8) -> u64 {
     x as u64
@@ -15,14 +94,14 @@ fn wide(x: u8) -> u64 {
 fn put_answer(out: &mut [u8; 65536], at: usize, answers: &[u8; 32768], from: usize) -> usize
     requires { ⌜ from + 16 ≤ 32768 ⌝ }
 {
-    let mut to = text::put_next(out, at, wide(answers[from]));
+    let mut to = put_next(out, at, wide(answers[from]));
     if (codec::load_u64(answers, from) < 256) & (codec::load_u64(answers, from + 8) == 0) {
-        return text::put_word(out, to, b" 0 0 0 0");
+        return put_word(out, to, b" 0 0 0 0");
     }
-    to = text::put_next(out, to, wide(answers[from + 1]));
-    to = text::put_next(out, to, wide(answers[from + 2]));
-    to = text::put_level(out, to, codec::load_level(answers, from + 4));
-    text::put_next(out, to, codec::load_u64(answers, from + 8))
+    to = put_next(out, to, wide(answers[from + 1]));
+    to = put_next(out, to, wide(answers[from + 2]));
+    to = put_level(out, to, codec::load_level(answers, from + 4));
+    put_next(out, to, codec::load_u64(answers, from + 8))
 }
 
 fn put_line(
@@ -35,10 +114,10 @@ fn put_line(
 ) -> usize
     requires { ⌜ from + 16 ≤ 32768 ⌝ }
 {
-    let mut to = text::put_number(out, at, place);
-    to = text::put_next(out, to, wide(code));
+    let mut to = put_number(out, at, place);
+    to = put_next(out, to, wide(code));
     to = put_answer(out, to, answers, from);
-    text::put(out, to, b'\n')
+    put(out, to, b'\n')
 }
 
 fn flush(out: &[u8], at: usize) {
@@ -77,9 +156,9 @@ fn lines(events: &[u8], answers: &[u8; 32768], n: usize, place: u64, out: &mut [
 // The last line, where bytes are left over.
 fn cut(left: &[u8], out: &mut [u8; 65536]) {
     if 0 < left.len() {
-        let mut to = text::put_word(out, 0, b"cut");
-        to = text::put_next(out, to, left.len() as u64);
-        to = text::put(out, to, b'\n');
+        let mut to = put_word(out, 0, b"cut");
+        to = put_next(out, to, left.len() as u64);
+        to = put(out, to, b'\n');
         flush(out, to);
     }
 }

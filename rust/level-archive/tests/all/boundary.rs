@@ -7,6 +7,7 @@ use level_archive::{
     ANSWER_BYTES, Answer, Archive, EVENT_BYTES, Event, Quality, TABLE_BYTES, Values, sys,
 };
 
+// As a C program declares them: `sys` takes slices, and a slice is never null.
 unsafe extern "C" {
     fn level_archive_setup(table: *mut u8, length: usize, sites: u32, partitions: u32) -> Values;
     fn level_archive_step(

@@ -1,13 +1,13 @@
 -- `lawful::channels::messages_formed` meets its contract: the first k messages are lawful. Assumes nothing.
-use mathlib.Core.Path.{_≡_, sym, _∙_}
+use mathlib.Core.Path.{_≡_, sym}
 use mathlib.Core.Bool.{true}
 use Prim.Native.Nat.{_-_, _≤_}
 use native.Mathlib.Omega.{arith}
-use borrow.Author.Tests.{not-true, not-false}
 use Rattle.vector.specs.Vec.{allBelow}
 use Rattle.vector.proofs.Entries.{allBelow-none, allBelow-more, allBelow-fails}
 use Rattle.table.specs.Channel.{ringAt}
 use Rattle.lawful.specs.WellFormed.{messageFormed}
+use Rattle.lawful.proofs.Tested.{fails, passes}
 use borrow.Author.Needs.{needs}
 use Rattle.lawful.proofs.channels.messages_formed.Statement.{statement}
 use Rattle.lawful.proofs.channels.messages_formed.Tie as tie
@@ -39,7 +39,7 @@ message-formed-requires c κs = search needs
 returns : tie.Need-returns Inv-loop μ-loop
 returns c =
     let l = c .before .before .before in
-    let no = sym (c .before .message-formed .ensures) ∙ not-true _ (c .if1 .taken) in
+    let no = fails (c .before .message-formed .ensures) (c .if1 .taken) in
     sym (allBelow-fails (l .before .before .args .wait) _ (l .loop .k) (omega arith) no)
 
 add-k : tie.Need-add-k Inv-loop μ-loop
@@ -51,7 +51,7 @@ loop-less c = search needs
 loop-again : tie.Need-loop-again Inv-loop μ-loop
 loop-again c =
     let l = c .before .before .before in
-    let yes = sym (c .before .message-formed .ensures) ∙ not-false _ (c .if1 .left) in
+    let yes = passes (c .before .message-formed .ensures) (c .if1 .left) in
     (omega arith, allBelow-more (l .loop .k) _ (l .loop .inv .1) yes)
 
 returns-2 : tie.Need-returns-2 Inv-loop μ-loop

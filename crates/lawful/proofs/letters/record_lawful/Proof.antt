@@ -3,11 +3,12 @@ use mathlib.Core.Path.{sym, ap, _∙_}
 use mathlib.Core.Bool.{and-false}
 use mir.Syntax.{w32}
 use mir.Facts.{toZ-ofZ}
-use borrow.Author.Tests.{lt-ltb, le-ltb, eq-eqb, ne-eqb, not-true, not-false}
+use borrow.Author.Tests.{lt-ltb, le-ltb, eq-eqb, ne-eqb}
 use Rattle.protocol.specs.Record.{partOf}
 use Rattle.protocol.specs.Needs.{levelLawful}
 use Rattle.table.specs.Letter.{recordAt}
 use Rattle.lawful.specs.Values.{recordLawful}
+use Rattle.lawful.proofs.Tested.{fails, passes}
 use borrow.Author.Needs.{needs}
 use Rattle.lawful.proofs.letters.record_lawful.Statement.{statement}
 use Rattle.lawful.proofs.letters.record_lawful.Tie as tie
@@ -69,7 +70,7 @@ unfolding recordLawful recordAt partOf
 returns-5 c =
     let got = c .before .before .load-level in
     let known = ap levelLawful (toZ-ofZ {w = w32} (record { sfits = got .ok }) ∙ got .ensures) in
-    let no = sym known ∙ sym (c .before .level-lawful .ensures) ∙ not-true _ (c .if5 .taken) in
+    let no = sym known ∙ fails (c .before .level-lawful .ensures) (c .if5 .taken) in
     rw no (simp and-false)
 
 add-load-u64 : tie.Need-add-load-u64
@@ -84,7 +85,7 @@ time-lawful-requires c κs = search needs
 returns-6 : tie.Need-returns-6
 unfolding recordLawful recordAt partOf
 returns-6 c =
-    let no = sym (c .before .time-lawful .ensures) ∙ not-true _ (c .if6 .taken) in
+    let no = fails (c .before .time-lawful .ensures) (c .if6 .taken) in
     rw (← c .before .before .load-u64 .ensures, no) (simp and-false)
 
 add-vector-formed : tie.Need-add-vector-formed
@@ -109,8 +110,8 @@ returns-7 c =
     let quality = lt-ltb (graded .before .load-u83 .result) 3 (graded .if4 .left) in
     let got = levelled .before .before .load-level in
     let known = ap levelLawful (toZ-ofZ {w = w32} (record { sfits = got .ok }) ∙ got .ensures) in
-    let level = sym known ∙ sym (levelled .before .level-lawful .ensures) ∙ not-false _ (levelled .if5 .left) in
-    let stamp = sym (timed .before .time-lawful .ensures) ∙ not-false _ (timed .if6 .left) in
+    let level = sym known ∙ passes (levelled .before .level-lawful .ensures) (levelled .if5 .left) in
+    let stamp = passes (timed .before .time-lawful .ensures) (timed .if6 .left) in
     rw
     (← keyed .before .load-u8 .ensures, ← placed .before .partition-of .ensures, ← sourced .before .load-u82 .ensures, ← graded .before .load-u83 .ensures)
     (rw

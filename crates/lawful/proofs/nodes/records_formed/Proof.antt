@@ -1,13 +1,13 @@
 -- `lawful::nodes::records_formed` meets its contract: the first k records are lawful. Assumes nothing.
-use mathlib.Core.Path.{_≡_, sym, _∙_}
+use mathlib.Core.Path.{_≡_, sym}
 use mathlib.Core.Bool.{true}
 use Prim.Native.Nat.{_-_, _≤_}
 use native.Mathlib.Omega.{arith}
-use borrow.Author.Tests.{not-true, not-false}
 use Rattle.vector.specs.Vec.{allBelow}
 use Rattle.vector.proofs.Entries.{allBelow-none, allBelow-more, allBelow-fails}
 use Rattle.table.specs.Node.{slotAt}
 use Rattle.lawful.specs.WellFormed.{recordFormed}
+use Rattle.lawful.proofs.Tested.{fails, passes}
 use borrow.Author.Needs.{needs}
 use Rattle.lawful.proofs.nodes.records_formed.Statement.{statement}
 use Rattle.lawful.proofs.nodes.records_formed.Tie as tie
@@ -36,7 +36,7 @@ record-formed-requires c κs = search needs
 returns : tie.Need-returns Inv-loop μ-loop
 returns c =
     let l = c .before .before .before in
-    let no = sym (c .before .record-formed .ensures) ∙ not-true _ (c .if1 .taken) in
+    let no = fails (c .before .record-formed .ensures) (c .if1 .taken) in
     sym (allBelow-fails (l .before .before .args .held) _ (l .loop .k) (omega arith) no)
 
 add-k : tie.Need-add-k Inv-loop μ-loop
@@ -48,7 +48,7 @@ loop-less c = search needs
 loop-again : tie.Need-loop-again Inv-loop μ-loop
 loop-again c =
     let l = c .before .before .before in
-    let yes = sym (c .before .record-formed .ensures) ∙ not-false _ (c .if1 .left) in
+    let yes = passes (c .before .record-formed .ensures) (c .if1 .left) in
     (omega arith, allBelow-more (l .loop .k) _ (l .loop .inv .1) yes)
 
 returns-2 : tie.Need-returns-2 Inv-loop μ-loop

@@ -1,14 +1,14 @@
 -- `lawful::vectors::vector_lawful` meets its contract: the first i entries are lawful. Assumes nothing.
-use mathlib.Core.Path.{_≡_, sym, _∙_}
+use mathlib.Core.Path.{_≡_, sym}
 use mathlib.Core.Bool.{true, cond}
 use Prim.Native.Nat.{_-_, _≤_}
 use native.Mathlib.Omega.{arith}
-use borrow.Author.Tests.{not-true, not-false}
 use lib.Dec.{ltb, eqb}
 use Rattle.vector.specs.Vec.{width, allBelow}
 use Rattle.vector.specs.Entries.{entry}
 use Rattle.vector.proofs.Entries.{allBelow-none, allBelow-more, allBelow-fails}
 use Rattle.lawful.specs.Values.{timeLawful, vecLawful}
+use Rattle.lawful.proofs.Tested.{fails, passes}
 use borrow.Author.Needs.{needs}
 use Rattle.lawful.proofs.vectors.vector_lawful.Statement.{statement}
 use Rattle.lawful.proofs.vectors.vector_lawful.Tie as tie
@@ -36,7 +36,7 @@ unfolding width entry vecLawful
 returns c =
     λ parts.
     let l = c .before .before .before in
-    let no = sym (c .before .entry-lawful .ensures) ∙ not-true _ (c .if1 .taken) in
+    let no = fails (c .before .entry-lawful .ensures) (c .if1 .taken) in
     sym (allBelow-fails 4 _ (l .loop .i) (omega arith) no)
 
 add-i : tie.Need-add-i Inv-loop μ-loop
@@ -49,7 +49,7 @@ loop-again : tie.Need-loop-again Inv-loop μ-loop
 unfolding entry
 loop-again c =
     let l = c .before .before .before in
-    let yes = sym (c .before .entry-lawful .ensures) ∙ not-false _ (c .if1 .left) in
+    let yes = passes (c .before .entry-lawful .ensures) (c .if1 .left) in
     (omega arith, allBelow-more (l .loop .i) _ (l .loop .inv .1) yes)
 
 returns-2 : tie.Need-returns-2 Inv-loop μ-loop

@@ -1,9 +1,9 @@
--- `bench::text::places` meets its contract: the loop's test keeps the count. Assumes nothing.
+-- `bench::places` meets its contract: the loop's test keeps the count. Assumes nothing.
 use Prim.Native.Nat.{_-_, _≤_}
 use native.Mathlib.Omega.{arith}
 use borrow.Author.Needs.{needs}
-use Rattle.bench.proofs.text.places.Statement.{statement}
-use Rattle.bench.proofs.text.places.Tie as tie
+use Rattle.bench.proofs.places.Statement.{statement}
+use Rattle.bench.proofs.places.Tie as tie
 
 abbrev Inv-loop : tie.InvT-loop
 Inv-loop x y₀ n₀ y n = n ≤ 20

@@ -1,9 +1,9 @@
--- `bench::text::put_number` stays in the output: there is room for 20 digits. Assumes nothing.
+-- `bench::put_number` stays in the output: there is room for 20 digits. Assumes nothing.
 use Prim.Native.Nat.{_≤_}
 use native.Mathlib.Omega.{arith}
 use borrow.Author.Needs.{needs}
-use Rattle.bench.proofs.text.put_number.Statement.{statement}
-use Rattle.bench.proofs.text.put_number.Tie as tie
+use Rattle.bench.proofs.put_number.Statement.{statement}
+use Rattle.bench.proofs.put_number.Tie as tie
 
 abbrev Inv-loop : tie.InvT-loop
 Inv-loop out₀ at x n y₀ i₀ out y i = (i ≤ n) × (n ≤ 20) × (at ≤ 65516)

@@ -1,9 +1,9 @@
--- `bench::text::put_word` ends: the measure is what is left of the text. Assumes nothing.
+-- `bench::put_word` ends: the measure is what is left of the text. Assumes nothing.
 use Prim.Native.Nat.{_-_}
 use lib.ListN.{length}
 use borrow.Author.Needs.{needs}
-use Rattle.bench.proofs.text.put_word.Statement.{statement}
-use Rattle.bench.proofs.text.put_word.Tie as tie
+use Rattle.bench.proofs.put_word.Statement.{statement}
+use Rattle.bench.proofs.put_word.Tie as tie
 
 abbrev Inv-loop : tie.InvT-loop
 Inv-loop out₀ at text to₀ i₀ out to i = Unit {0}

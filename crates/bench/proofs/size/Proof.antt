@@ -1,4 +1,4 @@
--- `bench::text::size`: no cast and no difference leaves its range, by cases on the sign. Assumes nothing.
+-- `bench::size`: no cast and no difference leaves its range, by cases on the sign. Assumes nothing.
 use Prim.Native.Nat.{ℕ}
 use mathlib.Core.Path.{_≡_}
 use mathlib.Core.Bool.{true, false}
@@ -10,8 +10,8 @@ use lib.Signed.{ltZ, nonNeg}
 use mir.Syntax.{w32, w64}
 use mir.Val.{toZ, ofZ, Fits, SFits}
 use mir.ValLaws.{toZ-ofZ}
-use Rattle.bench.proofs.text.size.Statement.{statement}
-use Rattle.bench.proofs.text.size.Tie as tie
+use Rattle.bench.proofs.size.Statement.{statement}
+use Rattle.bench.proofs.size.Tie as tie
 
 wide : {x : ℤ} → SFits w32 x → SFits w64 x
 wide f = record { sfits = omega (arith, f .sfits) }
