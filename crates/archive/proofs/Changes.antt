@@ -14,14 +14,14 @@ use Rattle.protocol.specs.Record.{Msg, Update, Beat, stampIn}
 use Rattle.protocol.specs.State.{Session}
 use Rattle.protocol.specs.Promises.{SiteAlike}
 use Rattle.protocol.specs.Change.{Change, SetSession, SetClock, Publish, Receive}
+use Rattle.parts.specs.Node.{heardIn, heldIn, slotAt, clockSet, stored, published, received}
+use Rattle.parts.specs.Channel.{ringAt, frontIn, waitIn, pushed, popped}
+use Rattle.parts.specs.Session.{putSession}
+use Rattle.parts.proofs.Lengths.{length-putSession, length-clockSet, length-published, length-received, length-pushed, length-popped}
 use Rattle.table.specs.Parts.{tableLength, placeOf, sessionOf, siteOf, nodeOf, channelOf, onSession, onSite, onNode, onChannel}
-use Rattle.table.specs.Node.{heardIn, heldIn, slotAt, clockSet, stored, published, received}
-use Rattle.table.specs.Channel.{ringAt, frontIn, waitIn, pushed, popped}
-use Rattle.table.specs.Session.{putSession}
 use Rattle.table.specs.Decode.{settingIn, decode}
 use Rattle.table.specs.Put.{sentTo, publishedOn, putChange, putChanges}
 use Rattle.table.specs.Fits.{FitsPublish, FitsReceive, Fits, FitsAll}
-use Rattle.table.proofs.Lengths.{length-putSession, length-clockSet, length-published, length-received, length-pushed, length-popped}
 use Rattle.table.proofs.Parts.{length-session, length-site, length-node, length-channel, length-onSite, length-onNode, channel-onNode, length-nodeOf, length-channelOf}
 use Rattle.table.proofs.Changes.{place-lt, onNode-keeps, channel-atNode, onChannel-keeps, publishedOn-keeps}
 use Rattle.table.proofs.Sent.{length-sent, channel-sent}

@@ -7,7 +7,7 @@ use lib.Dec.{T, eqb}
 use lib.ListN.{length}
 use mir.Facts.{and-yes, yes-and}
 use Rattle.codec.specs.Le.{Bytes}
-use Rattle.vector.proofs.Tests.{cond-elim}
+use Rattle.codec.proofs.Tests.{cond-elim, same-test}
 use Rattle.protocol.specs.Record.{Msg}
 use Rattle.protocol.specs.Event.{Event, OPEN, CLOSE, CLOCK, GET, PUT, BEGIN, READ, END, BEAT, DELIVER}
 use Rattle.protocol.specs.View.{Place, ofSession, atSite, onChannel, look, viewAt, view, place}
@@ -18,15 +18,14 @@ use Rattle.protocol.specs.Step.{decide, step}
 use Rattle.protocol.specs.Promises.{Alike}
 use Rattle.protocol.proofs.Judge.{Met, met-both, judge-elim}
 use Rattle.protocol.proofs.Influence as Protocol
+use Rattle.event.specs.Event.{codeLawful, eventOf}
+use Rattle.event.specs.Fields.{unusedZero}
 use Rattle.table.specs.Parts.{tableLength}
 use Rattle.table.specs.Decode.{settingIn, decode}
 use Rattle.table.specs.Put.{putChanges}
 use Rattle.table.specs.Fits.{FitsAll}
-use Rattle.table.proofs.Changes.{same-test}
 use Rattle.lawful.specs.WellFormed.{wellFormed}
 use Rattle.lawful.proofs.Fits.{step-fits}
-use Rattle.event.specs.Event.{codeLawful, eventOf}
-use Rattle.event.specs.Fields.{unusedZero}
 use Rattle.steps.specs.Step.{Called, gives, need, stepOn}
 use Rattle.archive.specs.Call.{stepCall}
 use Rattle.archive.specs.Story.{isEvent}

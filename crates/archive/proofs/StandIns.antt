@@ -10,7 +10,8 @@ use lib.IntN.{ℤ, pos}
 use lib.ListN.{length}
 use Rattle.codec.specs.Le.{load}
 use Rattle.codec.specs.Level.{levelFrom}
-use Rattle.vector.specs.Vec.{allBelow}
+use Rattle.codec.specs.Below.{allBelow}
+use Rattle.codec.specs.Tabulate.{tabulate}
 use Rattle.protocol.specs.Record.{Setting}
 use Rattle.protocol.specs.State.{setup}
 use Rattle.protocol.specs.Event.{DELIVER}
@@ -18,13 +19,12 @@ use Rattle.protocol.specs.declared.Refusal.{Refusal}
 use Rattle.protocol.specs.declared.Answer.the-variants.{Done, Value, Refused}
 use Rattle.protocol.specs.Step.{step, next, after}
 use Rattle.protocol.proofs.Runs.{computing}
-use Rattle.table.specs.Tabulate.{tabulate}
+use Rattle.event.specs.Event.{codeLawful, timeOf, levelIn, keysOf, eventOf}
+use Rattle.event.specs.Fields.{uses, zeroAt, restZero, unusedZero}
 use Rattle.table.specs.Decode.{decode}
 use Rattle.table.specs.Put.{fresh}
 use Rattle.lawful.specs.Values.{settingLawful}
 use Rattle.lawful.proofs.Steps.{Sound, fresh-sound, fresh-says}
-use Rattle.event.specs.Event.{codeLawful, timeOf, levelIn, keysOf, eventOf}
-use Rattle.event.specs.Fields.{uses, zeroAt, restZero, unusedZero}
 use Rattle.steps.specs.Step.{Called}
 use Rattle.archive.specs.Call.{stepCall}
 use Rattle.archive.specs.Story.{isEvent, eventsOf, tableAfter}

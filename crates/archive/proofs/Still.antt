@@ -6,7 +6,7 @@ use mathlib.Core.List.{List, [], _++_}
 use lib.Dec.{eqb}
 use lib.ListN.{length}
 use native.Mathlib.Omega.{arith}
-use Rattle.vector.proofs.Tests.{cond-elim}
+use Rattle.codec.proofs.Tests.{cond-elim}
 use Rattle.protocol.specs.State.{State}
 use Rattle.protocol.specs.Event.{Event}
 use Rattle.protocol.specs.declared.Refusal.{Refusal}
@@ -17,13 +17,13 @@ use Rattle.protocol.specs.Serve.{Outcome, serve}
 use Rattle.protocol.specs.Step.{decide, step}
 use Rattle.protocol.proofs.Judge.{judge-elim}
 use Rattle.protocol.proofs.Influence.{Unserved, serve-is-served}
+use Rattle.event.specs.Event.{codeLawful, eventOf}
+use Rattle.event.specs.Fields.{unusedZero}
 use Rattle.table.specs.Parts.{tableLength}
 use Rattle.table.specs.Decode.{decode}
 use Rattle.table.specs.Put.{putChanges}
 use Rattle.lawful.specs.Values.{settingLawful}
 use Rattle.lawful.specs.WellFormed.{wellFormed}
-use Rattle.event.specs.Event.{codeLawful, eventOf}
-use Rattle.event.specs.Fields.{unusedZero}
 use Rattle.steps.specs.Step.{Called, gives, stepOn}
 use Rattle.archive.specs.Call.{stepCall, setupCall}
 use Rattle.archive.specs.Promises.{Untouched, UntouchedSetup}

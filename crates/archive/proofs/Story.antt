@@ -10,8 +10,10 @@ use mathlib.Core.List.{List, [], _∷_, _++_}
 use lib.Dec.{T, eqb}
 use lib.ListN.{length}
 use mir.Facts.{T-not, and-yes, yes-and}
+use Rattle.codec.specs.Tabulate.{tabulate}
+use Rattle.codec.proofs.Tests.{cond-elim, yes-eqb}
+use Rattle.codec.proofs.Tabulate.{tab-snoc}
 use Rattle.vector.specs.Vec.{width}
-use Rattle.vector.proofs.Tests.{cond-elim, yes-eqb}
 use Rattle.protocol.specs.Record.{Setting}
 use Rattle.protocol.specs.State.{Net, State, setup}
 use Rattle.protocol.specs.Event.{Event, plain, numberOf}
@@ -21,25 +23,23 @@ use Rattle.protocol.specs.Step.{step, next, after, log}
 use Rattle.protocol.specs.Past.{served, history}
 use Rattle.protocol.specs.Causal.{GetCausal}
 use Rattle.protocol.specs.Count.{puts, delivers, count, waiting}
-use Rattle.protocol.proofs.Causal as Protocol
 use Rattle.protocol.proofs.Conserve.{conserved}
 use Rattle.protocol.proofs.Numbers.{no-24}
-use Rattle.table.specs.Tabulate.{tabulate}
+use Rattle.protocol.proofs.Causal as Protocol
+use Rattle.event.specs.Event.{codeLawful, eventOf}
+use Rattle.event.specs.Fields.{unusedZero}
 use Rattle.table.specs.Parts.{tableLength}
-use Rattle.table.proofs.Tabulate.{tab-snoc}
 use Rattle.table.specs.Decode.{decode}
 use Rattle.table.specs.Put.{putChanges, fresh}
 use Rattle.lawful.specs.Values.{settingLawful}
 use Rattle.lawful.specs.WellFormed.{wellFormed}
 use Rattle.lawful.proofs.Facts.{setting-facts}
 use Rattle.lawful.proofs.Steps.{Sound, fresh-sound, fresh-says, step-sound, step-says}
-use Rattle.event.specs.Event.{codeLawful, eventOf}
-use Rattle.event.specs.Fields.{unusedZero}
-use Rattle.steps.proofs.Stepped.{cond-yes, cond-not}
-use Rattle.steps.specs.Step.{Called, gives, refused, stepOn}
-use Rattle.archive.specs.Call.{stepCall, setupCall}
 use Rattle.reader.specs.Pieces.{pieceOf}
+use Rattle.steps.specs.Step.{Called, gives, refused, stepOn}
 use Rattle.steps.specs.Run.{turned, runBy}
+use Rattle.steps.proofs.Stepped.{cond-yes, cond-not}
+use Rattle.archive.specs.Call.{stepCall, setupCall}
 use Rattle.archive.specs.Run.{piecesOf, runCall}
 use Rattle.archive.specs.Story.{isEvent, eventsOf, tableAfter, linesOf, countOf}
 use Rattle.archive.specs.Promises.{setUp, Faithful, CausalGet, CausalPage, Conserved, NeverIll, RunIsSteps}

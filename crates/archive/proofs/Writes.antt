@@ -12,14 +12,14 @@ use lib.Seq.{getD-take, getD-drop}
 use Rattle.codec.specs.Le.{put}
 use Rattle.codec.specs.Level.{bitsOf}
 use Rattle.codec.specs.Part.{partOf, onPart, Keeps}
-use Rattle.codec.proofs.Part.{length-onPart, part-onPart, getD-onPart}
+use Rattle.codec.proofs.Part.{length-onPart, part-onPart, getD-onPart, getD-part}
 use Rattle.vector.specs.Vec.{Vec, width, zeros}
 use Rattle.vector.specs.Entries.{putFirst, putVec}
 use Rattle.protocol.specs.Record.{Rec, Msg, Update, Beat}
 use Rattle.protocol.specs.State.{Mark, Session}
+use Rattle.record.specs.RecordBytes.{putFields, putRecord, putMessage}
+use Rattle.parts.specs.Session.{flag, putMarks, putSession}
 use Rattle.table.specs.Parts.{tableLength, sessionAt, siteAt, nodeAt, channelAt, sessionOf, siteOf, nodeOf, channelOf, onSession, onSite, onNode, onChannel}
-use Rattle.table.specs.Letter.{putFields, putRecord, putMessage}
-use Rattle.table.specs.Session.{flag, putMarks, putSession}
 use Rattle.table.proofs.Parts.{session-is, site-is, node-is, channel-is}
 use Rattle.archive.specs.Influence.{SameWrites}
 
@@ -125,9 +125,6 @@ twin-putSession x a =
     (twin-put 1 3 (length (g .marks)) (twin-put 1 2 (flag (g .isOpen)) (twin-put 1 1 (x .site) (twin-put 1 0 (flag (x .isOpen)) a)))))))
 
 -- ---- f done to a part of both
-
-getD-part : (off k : ℕ) (t : List ℕ) (i : ℕ) → i < k → getD (partOf off k t) i 0 ≡ getD t (off + i) 0
-getD-part off k t i h = getD-take k (drop off t) i 0 h ∙ getD-drop off t i 0
 
 -- what stands in the part after f was done to it
 getD-done : (off k : ℕ) (f : List ℕ → List ℕ) (t : List ℕ) → off + k ≤ length t → Keeps k f → (i : ℕ) → i < k → getD (onPart off k f t) (off + i) 0 ≡ getD (f (partOf off k t)) i 0

@@ -8,11 +8,11 @@ use lib.ListN.{length, getD}
 use Rattle.codec.specs.Le.{Bytes}
 use Rattle.protocol.specs.View.{Place, ofSession, atSite, onChannel, place}
 use Rattle.protocol.specs.Promises.{SiteAlike, Alike}
+use Rattle.event.specs.Event.{eventOf}
+use Rattle.parts.specs.Channel.{frontIn, waitIn}
 use Rattle.table.specs.Parts.{tableLength, placeOf, siteOf, channelOf}
-use Rattle.table.specs.Channel.{frontIn, waitIn}
 use Rattle.table.specs.Decode.{settingIn, decode}
 use Rattle.lawful.specs.WellFormed.{wellFormed}
-use Rattle.event.specs.Event.{eventOf}
 use Rattle.steps.specs.Step.{Called}
 use Rattle.archive.specs.Call.{stepCall}
 use Rattle.archive.specs.Story.{isEvent}

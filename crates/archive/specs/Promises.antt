@@ -5,6 +5,7 @@ use mathlib.Core.Logic.{_≢_}
 use mathlib.Core.List.{List}
 use lib.Dec.{T}
 use lib.ListN.{length}
+use Rattle.codec.specs.Tabulate.{tabulate}
 use Rattle.protocol.specs.Record.{Setting}
 use Rattle.protocol.specs.Event.{GET, plain}
 use Rattle.protocol.specs.declared.Refusal.{Refusal}
@@ -14,11 +15,10 @@ use Rattle.protocol.specs.Step.{after, log}
 use Rattle.protocol.specs.Past.{history}
 use Rattle.protocol.specs.Causal.{GetCausal, PageCausal}
 use Rattle.protocol.specs.Count.{puts, delivers, waiting}
-use Rattle.table.specs.Tabulate.{tabulate}
+use Rattle.event.specs.Event.{eventOf}
 use Rattle.table.specs.Parts.{tableLength}
 use Rattle.table.specs.Decode.{decode}
 use Rattle.lawful.specs.Values.{settingLawful}
-use Rattle.event.specs.Event.{eventOf}
 use Rattle.reader.specs.Pieces.{pieceOf}
 use Rattle.archive.specs.Call.{stepCall, setupCall}
 use Rattle.archive.specs.Run.{piecesOf, runCall}

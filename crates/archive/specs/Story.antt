@@ -10,9 +10,9 @@ use Rattle.protocol.specs.Event.{Event}
 use Rattle.protocol.specs.declared.Answer.{Answer}
 use Rattle.protocol.specs.Step.{Line}
 use Rattle.protocol.specs.Past.{served}
-use Rattle.table.specs.Decode.{decode}
 use Rattle.event.specs.Event.{codeLawful, eventOf}
 use Rattle.event.specs.Fields.{unusedZero}
+use Rattle.table.specs.Decode.{decode}
 use Rattle.archive.specs.Call.{stepCall}
 
 -- the bytes are an event: neither 23, 10 nor an unused field's 11

@@ -16,7 +16,7 @@ use Rattle.codec.proofs.Le.{load-ext}
 pub length-part : (off k : ℕ) (t : List ℕ) → off + k ≤ length t → length (partOf off k t) ≡ k
 length-part off k t h = length-take-le k (drop off t) (omega (arith, length-drop off t))
 
-getD-part : (off k : ℕ) (t : List ℕ) (i : ℕ) → i < k → getD (partOf off k t) i 0 ≡ getD t (off + i) 0
+pub getD-part : (off k : ℕ) (t : List ℕ) (i : ℕ) → i < k → getD (partOf off k t) i 0 ≡ getD t (off + i) 0
 getD-part off k t i h = getD-take k (drop off t) i 0 h ∙ getD-drop off t i 0
 
 -- ---- a put or a load in the part is one in the whole

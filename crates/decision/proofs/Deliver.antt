@@ -7,6 +7,7 @@ use mathlib.Core.Bool.{Bool, true, false, cond, not, _&&_, _||_}
 use mathlib.Core.List.{List, [], _∷_}
 use borrow.Author.Tests.{lt-ltb, ne-eqb}
 use lib.Dec.{ltb}
+use Rattle.codec.specs.Tabulate.{tabulate}
 use Rattle.protocol.specs.Record.{Msg, Update, Beat}
 use Rattle.protocol.specs.Event.{DELIVER}
 use Rattle.protocol.specs.View.{place, look, viewAt, view}
@@ -15,13 +16,12 @@ use Rattle.protocol.specs.Change.{Receive}
 use Rattle.protocol.specs.Serve.{Outcome, _and_, taken, serve}
 use Rattle.protocol.specs.Step.{judge}
 use Rattle.protocol.specs.declared.Answer.the-variants.{Done}
-use Rattle.table.specs.Tabulate.{tabulate}
+use Rattle.record.specs.RecordBytes.{messageAt}
+use Rattle.parts.specs.Node.{heldIn}
+use Rattle.parts.specs.Channel.{ringAt, frontIn, waitIn, queueIn}
 use Rattle.table.specs.Parts.{placeOf, siteOf, nodeOf, channelOf}
-use Rattle.table.specs.Letter.{messageAt}
-use Rattle.table.specs.Node.{heldIn}
-use Rattle.table.specs.Channel.{ringAt, frontIn, waitIn, queueIn}
 use Rattle.table.specs.Decode.{decode}
-use Rattle.decision.specs.Decided.{answered}
+use Rattle.decision.specs.Answered.{answered}
 use Rattle.decision.proofs.Room.{store-room}
 use Rattle.decision.proofs.Ladders.{no as refuse}
 

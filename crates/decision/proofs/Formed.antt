@@ -9,20 +9,22 @@ use lib.Dec.{T, leb, ltb, eqb}
 use lib.ListN.{length}
 use mir.Facts.{and-yes, ltb-yes, leb-yes}
 use Rattle.codec.specs.Le.{load}
-use Rattle.vector.proofs.Tests.{cond-elim}
+use Rattle.codec.proofs.Tests.{cond-elim}
+use Rattle.codec.proofs.Tabulate.{tab-length}
 use Rattle.vector.proofs.Entries.{loadVec-beyond}
 use Rattle.protocol.specs.Record.{Setting}
 use Rattle.protocol.specs.State.{Session}
 use Rattle.protocol.specs.Needs.{keysLawful, distinct}
+use Rattle.record.specs.RecordBytes.{recordAt}
+use Rattle.record.specs.Ranges.{vecLawful, recordLawful}
+use Rattle.record.specs.RecordFormed.{recordFormed}
+use Rattle.record.proofs.Ranges.{record-facts}
+use Rattle.parts.specs.Node.{slotAt, heldIn}
+use Rattle.parts.specs.Session.{markAt, sessionIn}
 use Rattle.table.specs.Parts.{sessionOf, siteOf, nodeOf}
-use Rattle.table.specs.Letter.{recordAt}
-use Rattle.table.specs.Node.{slotAt, heldIn}
-use Rattle.table.specs.Session.{markAt, sessionIn}
 use Rattle.table.specs.Decode.{settingIn}
-use Rattle.table.proofs.Tabulate.{tab-length}
-use Rattle.lawful.specs.Values.{vecLawful, keysOf, recordLawful, pageLawful, sessionLawful}
-use Rattle.lawful.specs.WellFormed.{recordFormed, wellFormed}
-use Rattle.lawful.proofs.Values.{record-facts}
+use Rattle.lawful.specs.Values.{keysOf, pageLawful, sessionLawful}
+use Rattle.lawful.specs.WellFormed.{wellFormed}
 use Rattle.lawful.proofs.Facts.{formed}
 
 -- ---- of a lawful session

@@ -14,11 +14,11 @@ use Rattle.protocol.specs.Needs.{getReady, readReady, distinct, awaited, allRea
 use Rattle.protocol.specs.Change.{SetSession}
 use Rattle.protocol.specs.Serve.{Outcome, _and_, begun, readOn, serve}
 use Rattle.protocol.specs.Step.{judge}
+use Rattle.parts.specs.Node.{heardIn, storeIn}
+use Rattle.parts.specs.Session.{sessionIn}
 use Rattle.table.specs.Parts.{sessionOf, siteOf, nodeOf}
-use Rattle.table.specs.Node.{heardIn, storeIn}
-use Rattle.table.specs.Session.{sessionIn}
 use Rattle.table.specs.Decode.{settingIn, decode}
-use Rattle.decision.specs.Decided.{answered}
+use Rattle.decision.specs.Answered.{answered}
 
 -- a refusal, and nothing changes
 abbrev pub no : ℕ → Outcome

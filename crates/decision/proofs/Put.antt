@@ -9,6 +9,7 @@ use lib.Dec.{T, ltb, lt→ltb}
 use lib.IntN.{ℤ}
 use mir.Facts.{and-yes, yes-and, ltb-yes}
 use Rattle.codec.specs.Le.{load}
+use Rattle.codec.proofs.Tests.{same-test}
 use Rattle.vector.specs.Vec.{withEntry}
 use Rattle.protocol.specs.Record.{partOf, Update}
 use Rattle.protocol.specs.State.{Session, opened}
@@ -19,15 +20,15 @@ use Rattle.protocol.specs.Change.{SetSession, Publish}
 use Rattle.protocol.specs.Serve.{Outcome, _and_, written, serve}
 use Rattle.protocol.specs.Step.{judge}
 use Rattle.protocol.specs.declared.Answer.the-variants.{Stamped}
+use Rattle.record.specs.Ranges.{vecLawful}
+use Rattle.parts.specs.Node.{clockIn, heardIn, heldIn}
+use Rattle.parts.specs.Session.{sessionIn}
 use Rattle.table.specs.Parts.{sessionOf, siteOf, nodeOf}
-use Rattle.table.specs.Node.{clockIn, heardIn, heldIn}
-use Rattle.table.specs.Session.{sessionIn}
 use Rattle.table.specs.Decode.{settingIn, decode}
-use Rattle.table.proofs.Changes.{same-test}
-use Rattle.lawful.specs.Values.{vecLawful, pageLawful, sessionLawful}
+use Rattle.lawful.specs.Values.{pageLawful, sessionLawful}
 use Rattle.lawful.specs.WellFormed.{wellFormed}
 use Rattle.lawful.proofs.Facts.{formed}
-use Rattle.decision.specs.Decided.{answered}
+use Rattle.decision.specs.Answered.{answered}
 use Rattle.decision.proofs.Room.{roomy, store-room, send-room}
 use Rattle.decision.proofs.Ladders.{no as refuse}
 

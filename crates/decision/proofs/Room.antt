@@ -11,18 +11,18 @@ use lib.Dec.{T, ltb, eqb}
 use lib.ListN.{length}
 use mir.Facts.{or-yes, eqb-yes, yes-eqb}
 use Rattle.codec.specs.Le.{load}
-use Rattle.vector.specs.Vec.{allBelow}
-use Rattle.vector.proofs.Tests.{yes-or-l, yes-or-r}
-use Rattle.vector.proofs.Vec.{all-below-at, all-below}
+use Rattle.codec.specs.Below.{allBelow}
+use Rattle.codec.proofs.Tests.{yes-or-l, yes-or-r, same-test}
+use Rattle.codec.proofs.Below.{all-below-at, all-below}
 use Rattle.protocol.specs.Record.{Msg}
 use Rattle.protocol.specs.State.{Session}
 use Rattle.protocol.specs.View.{look}
 use Rattle.protocol.specs.Needs.{storeRoom, sendRoom}
+use Rattle.parts.specs.Node.{heldIn}
+use Rattle.parts.specs.Channel.{waitIn}
 use Rattle.table.specs.Parts.{placeOf, siteOf, nodeOf, channelOf}
-use Rattle.table.specs.Node.{heldIn}
-use Rattle.table.specs.Channel.{waitIn}
 use Rattle.table.specs.Decode.{settingIn, decode}
-use Rattle.table.proofs.Changes.{same-test, place-lt}
+use Rattle.table.proofs.Changes.{place-lt}
 use Rattle.lawful.proofs.Facts.{store-length}
 use Rattle.lawful.proofs.Fits.{Other, other-at, chan-length}
 

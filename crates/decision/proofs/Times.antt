@@ -14,10 +14,10 @@ use Rattle.protocol.specs.Change.{Change, SetClock, Publish}
 use Rattle.protocol.specs.Serve.{_and_, serve}
 use Rattle.protocol.specs.Step.{judge}
 use Rattle.protocol.specs.declared.Answer.the-variants.{Done}
+use Rattle.parts.specs.Node.{clockIn, heardIn}
 use Rattle.table.specs.Parts.{siteOf, nodeOf}
-use Rattle.table.specs.Node.{clockIn, heardIn}
 use Rattle.table.specs.Decode.{decode}
-use Rattle.decision.specs.Decided.{answered}
+use Rattle.decision.specs.Answered.{answered}
 use Rattle.decision.proofs.Ladders.{no as refuse}
 use Rattle.decision.proofs.Room.{roomy, send-room}
 

@@ -6,12 +6,12 @@ use mathlib.Core.List.{List}
 use lib.Dec.{T}
 use lib.ListN.{length}
 use Rattle.codec.specs.Le.{load}
+use Rattle.codec.proofs.Tabulate.{tab-length}
 use Rattle.protocol.specs.State as State
-use Rattle.table.specs.declared.Session.{Session}
+use Rattle.parts.specs.declared.Session.{Session}
+use Rattle.parts.specs.Session.{sessionIn}
+use Rattle.parts.specs.Meaning.{asSession}
 use Rattle.table.specs.Parts.{sessionOf}
-use Rattle.table.specs.Session.{sessionIn}
-use Rattle.table.specs.Values.{asSession}
-use Rattle.table.proofs.Tabulate.{tab-length}
 use Rattle.lawful.specs.WellFormed.{wellFormed}
 use Rattle.decision.proofs.Formed.{session-here}
 

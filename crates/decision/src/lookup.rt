@@ -7,20 +7,18 @@ ghost use lib.Dec.{T};
 ghost use lib.ListN.{length};
 ghost use Rattle.vector.specs.Entries.{entry};
 ghost use Rattle.protocol.specs.Record.{Setting, partOf, newest};
+ghost use Rattle.parts.specs.Node.{heardIn, storeIn};
+ghost use Rattle.parts.specs.Session.{sessionIn};
+ghost use Rattle.parts.specs.Meaning.{asSession};
+ghost use Rattle.search.specs.Found.{fitsRead, foundOf};
 ghost use Rattle.table.specs.Parts.{sessionOf, siteOf, nodeOf};
-ghost use Rattle.table.specs.Node.{heardIn, storeIn};
-ghost use Rattle.table.specs.Session.{sessionIn};
-ghost use Rattle.table.specs.Values.{asSession};
 ghost use Rattle.table.specs.Decode.{settingIn};
 ghost use Rattle.lawful.specs.WellFormed.{wellFormed};
-ghost use Rattle.decision.specs.Search.{fitsRead};
-ghost use Rattle.decision.specs.Found.{foundOf};
-use crate::Found;
-use crate::search;
+use parts::Session;
+use parts::nodes;
+use parts::sessions;
 use protocol::limits;
-use table::Session;
-use table::nodes;
-use table::sessions;
+use search::Found;
 use vector::Vector;
 
 pub fn session(t: &[u8], s: u8) -> Session

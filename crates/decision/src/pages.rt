@@ -7,14 +7,15 @@ ghost use lib.ListN.{length};
 ghost use Rattle.protocol.specs.Event.{BEGIN, READ, END};
 ghost use Rattle.table.specs.Decode.{decode};
 ghost use Rattle.lawful.specs.WellFormed.{wellFormed};
-ghost use Rattle.decision.specs.Marks.{keysOn};
-ghost use Rattle.decision.specs.Decided.{outcomeOf, answered};
-use crate::Decided;
-use crate::answers;
-use crate::keeping;
+ghost use Rattle.outcome.specs.Marks.{keysOn};
+ghost use Rattle.outcome.specs.Decided.{outcomeOf};
+ghost use Rattle.decision.specs.Answered.{answered};
 use crate::lookup;
-use crate::marks;
-use crate::raising;
+use outcome::Decided;
+use outcome::answers;
+use outcome::keeping;
+use outcome::marks;
+use outcome::raising;
 use protocol::Answer;
 
 // BEGIN of a page of the first `count` keys, with the node of partition p as its coordinator.

@@ -7,12 +7,13 @@ ghost use lib.ListN.{length};
 ghost use Rattle.protocol.specs.Event.{OPEN, CLOSE, GET};
 ghost use Rattle.table.specs.Decode.{decode};
 ghost use Rattle.lawful.specs.WellFormed.{wellFormed};
-ghost use Rattle.decision.specs.Decided.{outcomeOf, answered};
-use crate::Decided;
-use crate::answers;
-use crate::keeping;
+ghost use Rattle.outcome.specs.Decided.{outcomeOf};
+ghost use Rattle.decision.specs.Answered.{answered};
 use crate::lookup;
-use crate::raising;
+use outcome::Decided;
+use outcome::answers;
+use outcome::keeping;
+use outcome::raising;
 use protocol::Answer;
 use vector::Vector;
 

@@ -10,17 +10,16 @@ use lib.Dec.{leb, ltb, eqb}
 use lib.ListN.{length}
 use mir.Facts.{leb-yes}
 use Rattle.codec.specs.Le.{load}
-use Rattle.vector.specs.Vec.{allBelow}
-use Rattle.vector.proofs.Vec.{all-below}
+use Rattle.codec.specs.Below.{allBelow}
+use Rattle.codec.specs.Tabulate.{tabulate}
+use Rattle.codec.proofs.Below.{all-below, allBelow-front}
+use Rattle.codec.proofs.Tests.{yes-or-r, yes-eqb, same-test, and-behind}
+use Rattle.codec.proofs.Tabulate.{tab-length, tab-at}
 use Rattle.vector.proofs.Entries.{allBelow-ext}
-use Rattle.vector.proofs.Tests.{yes-or-r, yes-eqb}
 use Rattle.protocol.specs.Needs.{keysLawful}
-use Rattle.table.specs.Tabulate.{tabulate}
 use Rattle.event.specs.Fields.{restZero}
 use Rattle.event.specs.Event.{keysOf}
 use Rattle.event.specs.Ranges.{keysBelow}
-use Rattle.event.proofs.Tests.{same-tests, and-behind, allBelow-front}
-use Rattle.table.proofs.Tabulate.{tab-length, tab-at}
 
 keysLawful-tabulate : (n : ℕ) (f : ℕ → ℕ) → keysLawful (tabulate n f) ≡ allBelow n (λ i. ltb (f i) 64)
 unfolding keysLawful tabulate
@@ -60,5 +59,5 @@ load-zero (suc n) e at h (suc i) l =
 pub rest-none : (e : List ℕ) → load 8 e 20 ≡ 0 → restZero e ≡ true
 unfolding restZero
 rest-none e h =
-    same-tests (restZero e) true (λ t. tt)
+    same-test (restZero e) true (λ t. tt)
     (λ t. all-below 8 (λ i. ltb i (load 1 e 7) || eqb (load 1 e (20 + i)) 0) (λ i b. yes-or-r (ltb i (load 1 e 7)) _ (yes-eqb (load 1 e (20 + i)) 0 (load-zero 8 e 20 h i b))))

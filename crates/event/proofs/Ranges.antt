@@ -9,16 +9,17 @@ use lib.Dec.{ltb}
 use lib.ListN.{getD}
 use mir.Facts.{and-yes, ltb-yes}
 use Rattle.codec.specs.Le.{load}
-use Rattle.vector.specs.Vec.{allBelow}
+use Rattle.codec.specs.Below.{allBelow}
+use Rattle.codec.proofs.Tabulate.{tab-at}
+use Rattle.codec.proofs.Below.{first, none, allBelow-and}
+use Rattle.codec.proofs.Tests.{and-turn}
 use Rattle.vector.proofs.Entries.{allBelow-ext}
 use Rattle.protocol.specs.Record.{Setting}
 use Rattle.protocol.specs.Needs.{ranges}
-use Rattle.table.proofs.Tabulate.{tab-at}
 use Rattle.event.specs.Fields.{uses, zeroAt, startOf, sizeOf, restZero, unusedZero}
 use Rattle.event.specs.Event.{codeLawful, timeOf, levelIn, eventOf, met}
 use Rattle.event.specs.Values.{fieldsIn}
 use Rattle.event.specs.Ranges.{inRange, usedBy, zeroIn, fieldLawful, fieldsLawful}
-use Rattle.event.proofs.Tests.{first, none, and-turn, allBelow-and}
 use Rattle.event.proofs.Keys.{length-keysOf, count-keys}
 
 -- the field f of the code n + 1 is zero unless it is used, and in its range if it is

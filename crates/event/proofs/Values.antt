@@ -9,8 +9,10 @@ use lib.Dec.{T, ltb, leb, eqb}
 use lib.ListN.{getD}
 use mir.Facts.{and-yes, leb-yes, eqb-yes}
 use Rattle.codec.specs.Le.{load}
-use Rattle.vector.specs.Vec.{allBelow}
-use Rattle.vector.proofs.Vec.{all-below-at}
+use Rattle.codec.specs.Below.{allBelow}
+use Rattle.codec.proofs.Below.{all-below-at}
+use Rattle.codec.proofs.Tests.{either-yes, used-yes}
+use Rattle.codec.proofs.Tabulate.{tab-at, tab-ext}
 use Rattle.protocol.specs.Record.{Setting}
 use Rattle.protocol.specs.Needs.{ranges}
 use Rattle.event.specs.declared.Fields.{Fields}
@@ -18,8 +20,6 @@ use Rattle.event.specs.Fields.{uses, zeroAt, restZero, unusedZero}
 use Rattle.event.specs.Event.{codeLawful, keysOf, eventOf, met}
 use Rattle.event.specs.Values.{fieldsIn, keysFrom, eventFor, eventFrom}
 use Rattle.event.specs.Ranges.{inRange, usedBy, zeroIn, fieldLawful, fieldsLawful}
-use Rattle.event.proofs.Tests.{either-yes, used-yes}
-use Rattle.table.proofs.Tabulate.{tab-at, tab-ext}
 use Rattle.event.proofs.Ranges.{zeroUnused, usedInRange, field-lawful, fields-lawful}
 
 module _ (c : Setting) (e : List ℕ) where

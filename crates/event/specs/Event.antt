@@ -8,9 +8,9 @@ use lib.ListN.{getD}
 use lib.IntN.{ℤ}
 use Rattle.codec.specs.Le.{load}
 use Rattle.codec.specs.Level.{levelFrom}
+use Rattle.codec.specs.Tabulate.{tabulate}
 use Rattle.protocol.specs.Event.{Event, OPEN, CLOSE, CLOCK, GET, PUT, BEGIN, READ, END, BEAT, DELIVER}
 use Rattle.protocol.specs.Needs.{Need}
-use Rattle.table.specs.Tabulate.{tabulate}
 
 -- "code isn't 1 to 10" is 10
 unfoldable pub codeLawful : List ℕ → Bool

@@ -6,10 +6,10 @@ use mathlib.Core.List.{List, [], _∷_}
 use lib.Dec.{leb, ltb, eqb}
 use lib.ListN.{getD}
 use Rattle.codec.specs.Le.{load}
-use Rattle.vector.specs.Vec.{allBelow}
+use Rattle.codec.specs.Below.{allBelow}
+use Rattle.codec.specs.Tabulate.{tabulate}
 use Rattle.protocol.specs.Record.{Setting}
 use Rattle.protocol.specs.Needs.{levelLawful}
-use Rattle.table.specs.Tabulate.{tabulate}
 use Rattle.event.specs.declared.Fields.{Fields}
 use Rattle.event.specs.Fields.{uses, startOf, sizeOf, zeroAt, restZero}
 use Rattle.event.specs.Values.{fieldsIn}

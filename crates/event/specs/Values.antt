@@ -4,8 +4,8 @@ use Prim.Native.Nat.{ℕ, _+_, _-_}
 use mathlib.Core.List.{List, [], _∷_}
 use lib.ListN.{getD}
 use Rattle.codec.specs.Le.{load}
+use Rattle.codec.specs.Tabulate.{tabulate}
 use Rattle.protocol.specs.Event.{Event, OPEN, CLOSE, CLOCK, GET, PUT, BEGIN, READ, END, BEAT, DELIVER}
-use Rattle.table.specs.Tabulate.{tabulate}
 use Rattle.event.specs.declared.Fields.{Fields}
 use Rattle.event.specs.Event.{timeOf, levelIn}
 

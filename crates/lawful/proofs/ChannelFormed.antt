@@ -10,14 +10,14 @@ use borrow.Author.Tests.{lt-ltb}
 use Rattle.codec.specs.Le.{load, put, span, Apart, Bytes}
 use Rattle.codec.proofs.Le.{length-put, load-put, load-put-other, load-lt}
 use Rattle.protocol.specs.Record.{Setting, Msg}
-use Rattle.table.specs.Letter.{putMessage}
-use Rattle.table.specs.Channel.{ringAt, frontIn, waitIn, pushed, popped}
-use Rattle.table.proofs.Lengths.{length-putMessage}
-use Rattle.table.proofs.LetterBytes.{load-putMessage-other}
-use Rattle.lawful.specs.WellFormed.{messageFormed}
-use Rattle.lawful.proofs.Values.{LawfulMsg}
+use Rattle.record.specs.RecordBytes.{putMessage}
+use Rattle.record.specs.RecordFormed.{messageFormed}
+use Rattle.record.proofs.Lengths.{length-putMessage}
+use Rattle.record.proofs.RecordBytes.{load-putMessage-other}
+use Rattle.record.proofs.Ranges.{LawfulMsg}
+use Rattle.record.proofs.RecordFormed.{message-formed-ext, message-formed-put}
+use Rattle.parts.specs.Channel.{ringAt, frontIn, waitIn, pushed, popped}
 use Rattle.lawful.proofs.Facts.{ChannelFacts}
-use Rattle.lawful.proofs.LetterFormed.{message-formed-ext, message-formed-put}
 
 module _ (c : Setting) (i p d : ℕ) (b : List ℕ) (l : length b ≡ 464) where
   -- ---- one more behind the last

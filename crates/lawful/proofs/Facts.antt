@@ -3,38 +3,41 @@
 -- (`says-lawful`). Assumes nothing.
 use Prim.Native.Nat.{ℕ, zero, suc, _+_, _-_, _^_, _≤_, _<_}
 use native.Mathlib.Omega.{arith}
-use mathlib.Core.Path.{_≡_, sym, subst}
-use mathlib.Core.Logic.{_⊎_, inl, inr}
-use mathlib.Core.Bool.{Bool, true, false, cond, not, _&&_, _||_}
-use mathlib.Core.List.{List, [], List·Memᴰ·cases-cons, List·Memᴰ·not-nil}
+use mathlib.Core.Path.{_≡_}
+use mathlib.Core.Bool.{Bool, true, false, cond, not, _&&_}
+use mathlib.Core.List.{List, [], List·Memᴰ·not-nil}
 use lib.Dec.{T, leb, ltb, eqb}
 use lib.ListN.{length}
 use mir.Syntax.{w8}
 use mir.Val.{Fits}
 use mir.Facts.{fits-lit, and-yes, yes-and, ltb-yes, leb-yes, eqb-no, yes-ltb, yes-leb}
 use Rattle.codec.specs.Le.{load, span, Bytes}
+use Rattle.codec.specs.Below.{allBelow}
+use Rattle.codec.specs.Tabulate.{tabulate}
 use Rattle.codec.proofs.Le.{load-lt}
-use Rattle.vector.specs.Vec.{allBelow}
-use Rattle.vector.proofs.Tests.{cond-elim}
-use Rattle.vector.proofs.Vec.{all-below-at, all-below}
+use Rattle.codec.proofs.Tests.{cond-elim}
+use Rattle.codec.proofs.Below.{all-below-at, all-below}
+use Rattle.codec.proofs.Tabulate.{tab-length, tab-each}
 use Rattle.vector.proofs.Entries.{loadVec-beyond}
 use Rattle.protocol.specs.Record.{Setting, Rec, Msg}
 use Rattle.protocol.specs.State.{Mark}
 use Rattle.protocol.specs.Past.{_∈_}
-use Rattle.table.specs.Tabulate.{tabulate}
+use Rattle.record.specs.RecordBytes.{recordAt, messageAt}
+use Rattle.record.specs.Ranges.{timeLawful, vecLawful}
+use Rattle.record.specs.RecordFormed.{recordFormed, messageFormed}
+use Rattle.record.proofs.Ranges.{LawfulVec, vec-facts, LawfulRec, LawfulMsg}
+use Rattle.record.proofs.RecordFormed.{message-read, record-read}
+use Rattle.parts.specs.Node.{slotAt, clockIn, heardIn, heldIn, storeIn}
+use Rattle.parts.specs.Channel.{ringAt, frontIn, waitIn, queueIn}
+use Rattle.parts.specs.Session.{markAt, sessionIn}
+use Rattle.parts.specs.Fits.{FitsMarks}
 use Rattle.table.specs.Parts.{placeOf, sessionOf, siteOf, nodeOf, channelOf}
-use Rattle.table.specs.Letter.{recordAt, messageAt}
-use Rattle.table.specs.Node.{slotAt, clockIn, heardIn, heldIn, storeIn}
-use Rattle.table.specs.Channel.{ringAt, frontIn, waitIn, queueIn}
-use Rattle.table.specs.Session.{markAt, sessionIn}
 use Rattle.table.specs.Decode.{settingIn, decode}
-use Rattle.table.specs.Fits.{FitsMarks}
-use Rattle.table.proofs.Tabulate.{tab-length}
 use Rattle.table.proofs.Parts.{every-session}
 use Rattle.table.proofs.Changes.{place-lt}
-use Rattle.lawful.specs.Values.{settingLawful, timeLawful, vecLawful, recordLawful, messageLawful, sessionLawful}
-use Rattle.lawful.specs.WellFormed.{flagsAt, sessionFormed, recordFormed, beatFormed, messageFormed, nodeFormed, channelFormed, siteFormed, wellFormed}
-use Rattle.lawful.proofs.Values.{ShortMsg, LawfulVec, vec-facts, LawfulRec, record-facts, LawfulMsg, message-facts, page-facts, LawfulSession, session-facts, LawfulState}
+use Rattle.lawful.specs.Values.{settingLawful, sessionLawful}
+use Rattle.lawful.specs.WellFormed.{flagsAt, sessionFormed, nodeFormed, channelFormed, siteFormed, wellFormed}
+use Rattle.lawful.proofs.Values.{page-facts, LawfulSession, session-facts, LawfulState}
 
 -- ---- a session
 
@@ -205,16 +208,6 @@ module _ (t : List ℕ) where
 
 -- ---- what a table says is lawful
 
--- what holds of a function's first n values holds of each element of their list
-tab-each : {A : Type 0} (P : A → Type 0) (n : ℕ) (f : ℕ → A) → ((i : ℕ) → i < n → P (f i)) → (a : A) → a ∈ tabulate n f → P a
-unfolding tabulate
-tab-each P zero f h a m = absurd (List·Memᴰ·not-nil m)
-tab-each P (suc n) f h a m = go (tab-each P n (λ i. f (suc i)) (λ i l. h (suc i) (omega arith)) a) (List·Memᴰ·cases-cons m)
-  where
-    go : (a ∈ tabulate n (λ i. f (suc i)) → P a) → (a ≡ f 0) ⊎ (a ∈ tabulate n (λ i. f (suc i))) → P a
-    go r (inl e) = subst P (sym e) (h 0 (omega arith))
-    go r (inr k) = r k
-
 marks-read : (n : ℕ) (f : ℕ → Mark) → ((i : ℕ) → f i .key < 256) → FitsMarks (tabulate n f)
 unfolding tabulate
 marks-read zero f h = tt
@@ -225,21 +218,6 @@ unfolding sessionIn markAt span
 session-read c b bytes t =
     session-facts c (sessionIn b) t (load-lt 1 b 1 bytes) (loadVec-beyond b 32)
     (λ g. page-facts c (sessionIn b .page) g (marks-read (load 1 b 3) (markAt b) (λ i. load-lt 1 b (8 + i) bytes)) (loadVec-beyond b 64) (loadVec-beyond b 96))
-
-record-read : (c : Setting) (p : ℕ) (n : List ℕ) (at : ℕ) → T (recordFormed c p n at) → LawfulRec c p (recordAt n at)
-unfolding recordFormed recordAt
-record-read c p n at t =
-    record-facts c p (recordAt n at) (and-yes (eqb (load 1 n (at + 3)) 1) (recordLawful c p (recordAt n at)) t .1) (loadVec-beyond n (at + 16))
-
-short-read : (b : List ℕ) (at : ℕ) → ShortMsg (messageAt b at)
-unfolding messageAt recordAt
-short-read b at = cond-elim ShortMsg (eqb (load 1 b (at + 3)) 1) (λ e. loadVec-beyond b (at + 16)) (λ e. tt)
-
-message-read : (c : Setting) (i p : ℕ) (b : List ℕ) (at : ℕ) → T (messageFormed c i p b at) → LawfulMsg c i p (messageAt b at)
-unfolding messageFormed
-message-read c i p b at t =
-    message-facts c i p (messageAt b at)
-    (and-yes (eqb (load 1 b (at + 3)) 1 || (eqb (load 1 b (at + 3)) 2 && beatFormed i b at)) (messageLawful c i p (messageAt b at)) t .1) (short-read b at)
 
 cond-le : (b : Bool) (k n : ℕ) → n ≤ cond b k 0 → n ≤ k
 cond-le true k n h = h

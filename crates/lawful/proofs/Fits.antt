@@ -9,22 +9,23 @@ use lib.Dec.{T}
 use lib.ListN.{length}
 use borrow.Author.Tests.{lt-ltb, le-ltb, ne-eqb}
 use Rattle.codec.specs.Le.{Bytes}
+use Rattle.codec.proofs.Tabulate.{tab-length}
 use Rattle.protocol.specs.Record.{Msg, Update, Beat}
 use Rattle.protocol.specs.Event.{Event}
 use Rattle.protocol.specs.Change.{Change, SetSession, SetClock, Publish, Receive}
 use Rattle.protocol.specs.Step.{step}
+use Rattle.record.specs.RecordBytes.{messageAt}
+use Rattle.record.proofs.Ranges.{time-fits, message-fits}
+use Rattle.parts.specs.Channel.{ringAt, frontIn, waitIn, queueIn}
+use Rattle.parts.specs.Room.{Room}
 use Rattle.table.specs.Parts.{tableLength, placeOf, siteOf, nodeOf, channelOf}
-use Rattle.table.specs.Letter.{messageAt}
-use Rattle.table.specs.Channel.{ringAt, frontIn, waitIn, queueIn}
 use Rattle.table.specs.Decode.{settingIn, decode}
 use Rattle.table.specs.Put.{putChange}
 use Rattle.table.specs.Fits.{Fits, FitsAll}
-use Rattle.table.specs.Room.{Room}
-use Rattle.table.proofs.Tabulate.{tab-length}
 use Rattle.table.proofs.Bytes.{bytes-putChange}
 use Rattle.table.proofs.Decode.{length-putChange, setting-put, decode-put}
 use Rattle.lawful.specs.WellFormed.{wellFormed}
-use Rattle.lawful.proofs.Values.{time-fits, message-fits, session-fits}
+use Rattle.lawful.proofs.Values.{session-fits}
 use Rattle.lawful.proofs.Facts.{formed, store-length, says-lawful}
 use Rattle.lawful.proofs.Served.{RoomIn, Lawful, LawfulAll, step-lawful}
 

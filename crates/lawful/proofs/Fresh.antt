@@ -12,17 +12,19 @@ use Rattle.codec.proofs.Le.{getD-put-other}
 use Rattle.vector.specs.Vec.{zeros}
 use Rattle.protocol.specs.Record.{Setting}
 use Rattle.protocol.specs.State.{closed, setup}
+use Rattle.record.specs.Ranges.{timeLawful}
+use Rattle.record.proofs.Ranges.{zeros-lawful, vec-lawful}
+use Rattle.parts.specs.Node.{clockIn, heardIn, heldIn}
+use Rattle.parts.specs.Channel.{waitIn}
+use Rattle.parts.specs.Session.{sessionIn}
 use Rattle.table.specs.Parts.{tableLength, sessionOf, siteOf, nodeOf, channelOf}
-use Rattle.table.specs.Node.{clockIn, heardIn, heldIn}
-use Rattle.table.specs.Channel.{waitIn}
-use Rattle.table.specs.Session.{sessionIn}
 use Rattle.table.specs.Decode.{settingIn, decode}
 use Rattle.table.specs.Put.{fresh}
 use Rattle.table.proofs.Parts.{every-session}
 use Rattle.table.proofs.Fresh.{decode-fresh}
-use Rattle.lawful.specs.Values.{settingLawful, timeLawful, sessionLawful}
+use Rattle.lawful.specs.Values.{settingLawful, sessionLawful}
 use Rattle.lawful.specs.WellFormed.{wellFormed}
-use Rattle.lawful.proofs.Values.{zeros-lawful, vec-lawful, session-lawful}
+use Rattle.lawful.proofs.Values.{session-lawful}
 use Rattle.lawful.proofs.Facts.{NodeFacts, ChannelFacts, setting-facts, well-formed, store-length}
 use Rattle.lawful.proofs.Served.{closed-lawful}
 use Rattle.lawful.proofs.Fits.{other-at, chan-length}

@@ -10,20 +10,20 @@ use lib.ListN.{length}
 use mir.Facts.{and-yes, ltb-yes}
 use Rattle.codec.specs.Le.{Bytes}
 use Rattle.codec.specs.Part.{Keeps}
-use Rattle.vector.proofs.Tests.{cond-elim}
+use Rattle.codec.proofs.Tests.{cond-elim}
 use Rattle.protocol.specs.Record.{Msg}
 use Rattle.protocol.specs.State.{Session}
 use Rattle.protocol.specs.Event.{Event}
 use Rattle.protocol.specs.Change.{Change, SetSession, SetClock, Publish, Receive, at}
 use Rattle.protocol.specs.Step.{step}
+use Rattle.parts.specs.Node.{clockSet, published, received}
+use Rattle.parts.specs.Channel.{pushed, popped}
+use Rattle.parts.specs.Session.{putSession}
+use Rattle.parts.proofs.Lengths.{length-clockSet, length-received, length-popped, length-putSession}
 use Rattle.table.specs.Parts.{tableLength, placeOf, sessionOf, siteOf, nodeOf, channelOf, onSession, onSite, onNode, onChannel}
-use Rattle.table.specs.Node.{clockSet, published, received}
-use Rattle.table.specs.Channel.{pushed, popped}
-use Rattle.table.specs.Session.{putSession}
 use Rattle.table.specs.Decode.{settingIn, decode}
 use Rattle.table.specs.Put.{publishedOn, putChange, putChanges}
 use Rattle.table.specs.Fits.{FitsPublish, FitsReceive, Fits}
-use Rattle.table.proofs.Lengths.{length-clockSet, length-received, length-popped, length-putSession}
 use Rattle.table.proofs.Parts.{length-session, session-onSession, site-onSession, length-onSite, session-onSite, load-onSite, length-nodeOf, length-channelOf, bytes-channelOf}
 use Rattle.table.proofs.Changes.{at-yes, place-lt, onNode-keeps, node-atNode, channel-atNode, onChannel-keeps, node-atChannel, channel-atChannel, publishedOn-keeps, node-atPublish, channel-atPublish}
 use Rattle.table.proofs.Bytes.{bytes-putChange}

@@ -9,16 +9,17 @@ use native.Mathlib.Numerals.{add-one}
 use borrow.Author.Tests.{eq-eqb, ne-eqb}
 use lib.Dec.{leb, ltb, eqb}
 use Rattle.codec.specs.Le.{load}
-use Rattle.vector.specs.Vec.{allBelow}
+use Rattle.codec.specs.Below.{allBelow}
+use Rattle.codec.specs.Tabulate.{tabulate}
+use Rattle.codec.proofs.Tests.{and-swap}
+use Rattle.codec.proofs.Tabulate.{tab-length, tab-more, tab-none}
 use Rattle.vector.specs.Entries.{loadVec}
-use Rattle.vector.proofs.Tests.{and-swap}
 use Rattle.protocol.specs.Record.{Setting}
 use Rattle.protocol.specs.State.{Mark}
 use Rattle.protocol.specs.Needs.{keysLawful, holdsKey, distinct}
-use Rattle.table.specs.Tabulate.{tabulate}
-use Rattle.table.specs.Session.{markAt, sessionIn}
-use Rattle.table.proofs.Tabulate.{tab-length, tab-more, tab-none}
-use Rattle.lawful.specs.Values.{vecLawful, keysOf, pageLawful}
+use Rattle.record.specs.Ranges.{vecLawful}
+use Rattle.parts.specs.Session.{markAt, sessionIn}
+use Rattle.lawful.specs.Values.{keysOf, pageLawful}
 
 -- ---- a list
 

@@ -14,17 +14,17 @@ use Rattle.codec.proofs.Le.{length-put, load-put, load-put-other}
 use Rattle.vector.specs.Vec.{width, withEntry}
 use Rattle.vector.proofs.Entries.{loadVec-below, loadVec-beyond}
 use Rattle.protocol.specs.Record.{Setting, Rec, Msg, Update, Beat, stampIn}
-use Rattle.table.specs.Letter.{putRecord}
-use Rattle.table.specs.Node.{slotAt, clockIn, heardIn, heldIn, clockSet, stored, published, received}
-use Rattle.table.specs.Room.{Room}
-use Rattle.table.proofs.Lengths.{length-putRecord}
-use Rattle.table.proofs.LetterBytes.{loadVec-ext, load-putRecord-other}
-use Rattle.table.proofs.NodeBytes.{clock-clockSet, heard-clockSet, clock-published, heard-published}
-use Rattle.lawful.specs.Values.{timeLawful, vecLawful}
-use Rattle.lawful.specs.WellFormed.{recordFormed}
-use Rattle.lawful.proofs.Values.{time-fits, LawfulVec, vec-facts, vec-lawful, with-entry-lawful, LawfulRec, LawfulMsg, stamp-lawful}
+use Rattle.record.specs.RecordBytes.{putRecord}
+use Rattle.record.specs.Ranges.{timeLawful, vecLawful}
+use Rattle.record.specs.RecordFormed.{recordFormed}
+use Rattle.record.proofs.Lengths.{length-putRecord}
+use Rattle.record.proofs.RecordBytes.{loadVec-ext, load-putRecord-other}
+use Rattle.record.proofs.Ranges.{time-fits, LawfulVec, vec-facts, vec-lawful, with-entry-lawful, LawfulRec, LawfulMsg, stamp-lawful}
+use Rattle.record.proofs.RecordFormed.{record-formed-ext, record-formed-put}
+use Rattle.parts.specs.Node.{slotAt, clockIn, heardIn, heldIn, clockSet, stored, published, received}
+use Rattle.parts.specs.Room.{Room}
+use Rattle.parts.proofs.NodeBytes.{clock-clockSet, heard-clockSet, clock-published, heard-published}
 use Rattle.lawful.proofs.Facts.{NodeFacts}
-use Rattle.lawful.proofs.LetterFormed.{record-formed-ext, record-formed-put}
 
 module _ (c : Setting) (m p : ℕ) where
   -- ---- a put before the records

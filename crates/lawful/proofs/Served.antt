@@ -12,9 +12,9 @@ use lib.Dec.{T, leb, ltb, eqb}
 use lib.IntN.{ℤ}
 use lib.ListN.{length}
 use mir.Facts.{and-yes, or-yes, ltb-yes, leb-yes, eqb-yes, eqb-no}
+use Rattle.codec.proofs.Tests.{cond-elim, implies}
+use Rattle.codec.proofs.Below.{all-below-at}
 use Rattle.vector.specs.Vec.{Vec, zeros, larger, withEntry}
-use Rattle.vector.proofs.Tests.{cond-elim}
-use Rattle.vector.proofs.Vec.{all-below-at}
 use Rattle.protocol.specs.Record.{Setting, partOf, Rec, Msg, Update, Beat, newest, ofKey, fitsPage, raisedBy}
 use Rattle.protocol.specs.State.{Mark, Page, Session, State, noPage, closed, opened}
 use Rattle.protocol.specs.Event.{Event, OPEN, CLOSE, CLOCK, GET, PUT, BEGIN, READ, END, BEAT, DELIVER}
@@ -26,8 +26,9 @@ use Rattle.protocol.specs.Step.{decide, step}
 use Rattle.protocol.specs.Past.{_∈_}
 use Rattle.protocol.proofs.Judge.{Met, met-both, judge-elim}
 use Rattle.protocol.proofs.Order.{NewestOf, newest-is}
+use Rattle.record.proofs.Ranges.{LawfulVec, zeros-lawful, larger-lawful, with-entry-lawful, raised-lawful, LawfulRec, LawfulMsg}
 use Rattle.lawful.specs.Values.{keysOf}
-use Rattle.lawful.proofs.Values.{implies, LawfulVec, zeros-lawful, larger-lawful, with-entry-lawful, raised-lawful, LawfulRec, LawfulMsg, LawfulPage, marks-fit, LawfulSession, LawfulState}
+use Rattle.lawful.proofs.Values.{LawfulPage, marks-fit, LawfulSession, LawfulState}
 
 -- ---- lawful changes of a state
 

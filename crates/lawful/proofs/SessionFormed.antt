@@ -15,8 +15,8 @@ use Rattle.vector.specs.Entries.{putVec}
 use Rattle.vector.proofs.Entries.{length-putVec, load-putVec-other}
 use Rattle.protocol.specs.Record.{Setting}
 use Rattle.protocol.specs.State.{Mark, Session}
-use Rattle.table.specs.Session.{flag, putMarks, putSession}
-use Rattle.table.proofs.SessionBytes.{session-putSession}
+use Rattle.parts.specs.Session.{flag, putMarks, putSession}
+use Rattle.parts.proofs.SessionBytes.{session-putSession}
 use Rattle.lawful.specs.Values.{sessionLawful}
 use Rattle.lawful.proofs.Values.{LawfulSession, session-lawful, session-fits}
 use Rattle.lawful.proofs.Facts.{SessionFacts}

@@ -1,20 +1,20 @@
 -- When a table's bytes are well formed: what they say is lawful, and what says it (flags, marks, kinds, a heartbeat's zeros) is too. Unused slots, ring
 -- places and page keys, and all room, may hold any bytes; flags, marks, clocks and vectors are tested at every place. Assumes nothing.
 use Prim.Native.Nat.{ℕ, _+_, _-_}
-use mathlib.Core.Bool.{Bool, cond, _&&_, _||_}
+use mathlib.Core.Bool.{Bool, cond, _&&_}
 use mathlib.Core.List.{List}
-use lib.Dec.{leb, ltb, eqb}
+use lib.Dec.{leb, ltb}
 use Rattle.codec.specs.Le.{load}
-use Rattle.vector.specs.Vec.{width, allBelow}
-use Rattle.vector.specs.Entries.{loadVec}
+use Rattle.codec.specs.Below.{allBelow}
 use Rattle.protocol.specs.Record.{Setting}
+use Rattle.record.specs.Ranges.{timeLawful, vecLawful}
+use Rattle.record.specs.RecordFormed.{messageFormed, recordFormed}
+use Rattle.parts.specs.Node.{slotAt, clockIn, heardIn, heldIn}
+use Rattle.parts.specs.Channel.{ringAt, frontIn, waitIn}
+use Rattle.parts.specs.Session.{sessionIn}
 use Rattle.table.specs.Parts.{sessionOf, siteOf, nodeOf, channelOf}
-use Rattle.table.specs.Letter.{recordAt, messageAt}
-use Rattle.table.specs.Node.{slotAt, clockIn, heardIn, heldIn}
-use Rattle.table.specs.Channel.{ringAt, frontIn, waitIn}
-use Rattle.table.specs.Session.{sessionIn}
 use Rattle.table.specs.Decode.{settingIn}
-use Rattle.lawful.specs.Values.{settingLawful, timeLawful, vecLawful, recordLawful, messageLawful, sessionLawful}
+use Rattle.lawful.specs.Values.{settingLawful, sessionLawful}
 
 -- "flags and marks are 0 or 1"
 unfoldable pub flagsAt : List ℕ → (at n : ℕ) → Bool
@@ -22,19 +22,6 @@ flagsAt b at n = allBelow n (λ i. ltb (load 1 b (at + i)) 2)
 
 unfoldable pub sessionFormed : Setting → List ℕ → Bool
 sessionFormed c b = (ltb (load 1 b 0) 2 && (ltb (load 1 b 2) 2 && flagsAt b 16 8)) && sessionLawful c (sessionIn b)
-
--- a record in use of partition p: "A stored record has kind 1"
-unfoldable pub recordFormed : Setting → (p : ℕ) → List ℕ → (at : ℕ) → Bool
-recordFormed c p n at = eqb (load 1 n (at + 3)) 1 && recordLawful c p (recordAt n at)
-
--- "A heartbeat has key, quality, level and vector zero", and its channel's source
-unfoldable pub beatFormed : (i : ℕ) → List ℕ → (at : ℕ) → Bool
-beatFormed i b at =
-    eqb (load 1 b at) 0 && (eqb (load 1 b (at + 1)) i && (eqb (load 1 b (at + 2)) 0 && (eqb (load 4 b (at + 4)) 0 && allBelow width (λ e. eqb (loadVec b (at + 16) e) 0))))
-
--- a message in use of the channel from site i at partition p: "a lawful kind"
-unfoldable pub messageFormed : Setting → (i p : ℕ) → List ℕ → (at : ℕ) → Bool
-messageFormed c i p b at = (eqb (load 1 b (at + 3)) 1 || (eqb (load 1 b (at + 3)) 2 && beatFormed i b at)) && messageLawful c i p (messageAt b at)
 
 -- "nodes and channels of absent sites or partitions hold no record or message"
 unfoldable pub nodeFormed : Setting → (m p : ℕ) → List ℕ → Bool

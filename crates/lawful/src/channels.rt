@@ -2,11 +2,12 @@
 ghost use mathlib.Core.Path.{_≡_};
 ghost use Prim.Native.Nat.{_<_};
 ghost use lib.ListN.{length};
-ghost use Rattle.vector.specs.Vec.{allBelow};
-ghost use Rattle.table.specs.Channel.{ringAt};
-ghost use Rattle.lawful.specs.WellFormed.{messageFormed, channelFormed};
-use crate::letters;
+ghost use Rattle.codec.specs.Below.{allBelow};
+ghost use Rattle.record.specs.RecordFormed.{messageFormed};
+ghost use Rattle.parts.specs.Channel.{ringAt};
+ghost use Rattle.lawful.specs.WellFormed.{channelFormed};
 use crate::nodes;
+use record::formed;
 
 // The first `wait` messages from the place `front` on, round the ring.
 pub fn messages_formed(b: &[u8], sites: u8, parts: u8, i: u8, p: u8, front: u8, wait: u8) -> bool
@@ -16,7 +17,7 @@ pub fn messages_formed(b: &[u8], sites: u8, parts: u8, i: u8, p: u8, front: u8, 
     let mut k = 0;
     while k < wait {
         let at = 16 + 56 * ((front as usize + k as usize) % 8);
-        if !letters::message_formed(b, at, sites, parts, i, p) {
+        if !formed::message_formed(b, at, sites, parts, i, p) {
             return false;
         }
         k += 1;
@@ -29,7 +30,7 @@ pub fn channel_formed(b: &[u8], sites: u8, parts: u8, i: u8, p: u8, d: u8) -> bo
     requires { ⌜ (length (now b) ≡ 464) × (0 < parts) × (d < 3) ⌝ }
     ensures { λ r. ⌜ r ≡ channelFormed (record { sites = sites; parts = parts }) i p d (now (b .entry)) ⌝ }
 {
-    let wait = table::channels::waiting(b);
+    let wait = parts::channels::waiting(b);
     if wait == 0 {
         return true;
     }

@@ -3,18 +3,16 @@
 ghost use mathlib.Core.Path.{_≡_};
 ghost use Prim.Native.Nat.{ℕ, _<_};
 ghost use lib.ListN.{length};
-ghost use Rattle.vector.specs.Vec.{allBelow};
+ghost use Rattle.codec.specs.Below.{allBelow};
 ghost use Rattle.table.specs.Parts.{sessionOf, siteOf};
 ghost use Rattle.lawful.specs.Values.{settingLawful};
 ghost use Rattle.lawful.specs.WellFormed.{sessionFormed, siteFormed, wellFormed};
 
 pub mod channels;
-pub mod letters;
 pub mod nodes;
 pub mod pages;
 pub mod sessions;
 pub mod sites;
-pub mod vectors;
 
 // "site and partition numbers are 1 to 4"
 pub fn setting_lawful(sites: u8, parts: u8) -> bool

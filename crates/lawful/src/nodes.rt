@@ -4,11 +4,12 @@ ghost use mathlib.Core.Path.{_≡_};
 ghost use mathlib.Core.Bool.{cond};
 ghost use Prim.Native.Nat.{_≤_, _<_};
 ghost use lib.ListN.{length};
-ghost use Rattle.vector.specs.Vec.{allBelow};
-ghost use Rattle.table.specs.Node.{slotAt};
-ghost use Rattle.lawful.specs.WellFormed.{recordFormed, nodeFormed};
-use crate::letters;
-use crate::vectors;
+ghost use Rattle.codec.specs.Below.{allBelow};
+ghost use Rattle.record.specs.RecordFormed.{recordFormed};
+ghost use Rattle.parts.specs.Node.{slotAt};
+ghost use Rattle.lawful.specs.WellFormed.{nodeFormed};
+use record::formed;
+use record::times;
 
 // "nodes and channels of absent sites or partitions hold no record or message"
 pub fn most(exists: bool, n: u8) -> u8
@@ -24,7 +25,7 @@ pub fn records_formed(n: &[u8], sites: u8, parts: u8, p: u8, held: u8) -> bool
 {
     let mut k = 0;
     while k < held {
-        if !letters::record_formed(n, 64 + 56 * (k as usize), sites, parts, p) {
+        if !formed::record_formed(n, 64 + 56 * (k as usize), sites, parts, p) {
             return false;
         }
         k += 1;
@@ -37,14 +38,14 @@ pub fn node_formed(n: &[u8], sites: u8, parts: u8, m: u8, p: u8) -> bool
     requires { ⌜ (length (now n) ≡ 1856) × (0 < parts) ⌝ }
     ensures { λ r. ⌜ r ≡ nodeFormed (record { sites = sites; parts = parts }) m p (now (n .entry)) ⌝ }
 {
-    let held = table::nodes::held(n);
+    let held = parts::nodes::held(n);
     if most((m < sites) & (p < parts), 32) < held {
         return false;
     }
-    if !vectors::time_lawful(table::nodes::clock(n)) {
+    if !times::time_lawful(parts::nodes::clock(n)) {
         return false;
     }
-    if !vectors::vector_formed(n, 8, sites) {
+    if !times::vector_formed(n, 8, sites) {
         return false;
     }
     records_formed(n, sites, parts, p, held)

@@ -6,8 +6,8 @@ ghost use Prim.Native.Nat.{_+_, _≤_};
 ghost use lib.Dec.{ltb, eqb};
 ghost use lib.ListN.{length};
 ghost use Rattle.codec.specs.Le.{load};
+ghost use Rattle.codec.specs.Tabulate.{tabulate};
 ghost use Rattle.protocol.specs.Needs.{keysLawful, holdsKey, distinct};
-ghost use Rattle.table.specs.Tabulate.{tabulate};
 
 // The key k is one of the n from `at`.
 pub fn holds_key(b: &[u8], at: usize, n: usize, k: u8) -> bool

@@ -5,11 +5,11 @@ ghost use Prim.Native.Nat.{ℕ, _+_, _≤_};
 ghost use lib.Dec.{ltb, eqb};
 ghost use lib.ListN.{length};
 ghost use Rattle.codec.specs.Le.{load};
-ghost use Rattle.table.specs.Session.{sessionIn};
+ghost use Rattle.parts.specs.Session.{sessionIn};
 ghost use Rattle.lawful.specs.Values.{pageLawful};
 ghost use Rattle.lawful.specs.WellFormed.{flagsAt, sessionFormed};
 use crate::pages;
-use crate::vectors;
+use record::times;
 
 // "flags and marks are 0 or 1": the n from `at`.
 pub fn flags_formed(b: &[u8], at: usize, n: usize) -> bool
@@ -38,10 +38,10 @@ pub fn page_lawful(b: &[u8], sites: u8) -> bool
     if !pages::page_keys(b, count) {
         return false;
     }
-    if !vectors::vector_formed(b, 64, sites) {
+    if !times::vector_formed(b, 64, sites) {
         return false;
     }
-    vectors::vector_formed(b, 96, sites)
+    times::vector_formed(b, 96, sites)
 }
 
 // "an open session's site exists"
@@ -72,7 +72,7 @@ pub fn session_formed(b: &[u8], sites: u8) -> bool
     if !flags_formed(b, 16, 8) {
         return false;
     }
-    if !vectors::vector_formed(b, 32, sites) {
+    if !times::vector_formed(b, 32, sites) {
         return false;
     }
     page_lawful(b, sites)

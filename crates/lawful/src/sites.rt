@@ -3,7 +3,7 @@
 ghost use mathlib.Core.Path.{_≡_};
 ghost use Prim.Native.Nat.{_<_};
 ghost use lib.ListN.{length};
-ghost use Rattle.vector.specs.Vec.{allBelow};
+ghost use Rattle.codec.specs.Below.{allBelow};
 ghost use Rattle.table.specs.Parts.{nodeOf, channelOf};
 ghost use Rattle.lawful.specs.WellFormed.{nodeFormed, channelFormed, siteFormed};
 use crate::channels;

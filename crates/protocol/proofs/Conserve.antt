@@ -7,7 +7,7 @@ use mathlib.Core.Bool.{Bool, true, false, cond, not, _&&_}
 use mathlib.Core.List.{List, [], _∷_, _++_, tail}
 use lib.Dec.{T, ltb, eqb, lt→ltb}
 use mir.Facts.{and-yes, eqb-yes}
-use Rattle.vector.proofs.Tests.{cond-elim}
+use Rattle.codec.proofs.Tests.{cond-elim}
 use Rattle.protocol.specs.Record.{partOf, Rec, Msg, Update, Beat}
 use Rattle.protocol.specs.State.{Net, State, setup}
 use Rattle.protocol.specs.Event.{Event, OPEN, CLOSE, CLOCK, GET, PUT, BEGIN, READ, END, BEAT, DELIVER, Answer, Refusal, Refused}

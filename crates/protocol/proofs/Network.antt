@@ -8,8 +8,8 @@ use mathlib.Core.Bool.{Bool, true, false, cond, not, _&&_}
 use mathlib.Core.List.{List, [], _∷_, _++_, tail, List·Memᴰ·head, List·Memᴰ·tail, List·Memᴰ·cases-cons, List·Memᴰ·not-nil, Memᴰ·append-left, Memᴰ·append-right, List·Memᴰ·append-cases, List·Memᴰ·eq-of-singleton}
 use lib.Dec.{T, ltb, eqb, lt→ltb}
 use mir.Facts.{T-not, and-yes, yes-and, eqb-yes}
+use Rattle.codec.proofs.Tests.{cond-elim, yes-eqb}
 use Rattle.vector.specs.Vec.{Vec, width, withEntry, atLeast}
-use Rattle.vector.proofs.Tests.{cond-elim, yes-eqb}
 use Rattle.protocol.specs.Record.{partOf, Rec, Msg, Update, Beat, stampIn, recordsIn}
 use Rattle.protocol.specs.State.{Net}
 use Rattle.protocol.specs.Change.{at, setClock, publish, receive}

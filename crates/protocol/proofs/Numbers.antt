@@ -6,7 +6,7 @@ use mathlib.Core.Bool.{Bool, true, not, _&&_}
 use mathlib.Core.List.{List, [], _∷_, _++_}
 use lib.Dec.{T, eqb}
 use mir.Facts.{T-not, and-yes}
-use Rattle.vector.proofs.Tests.{cond-elim, yes-eqb}
+use Rattle.codec.proofs.Tests.{cond-elim, yes-eqb}
 use Rattle.protocol.specs.Record.{Setting}
 use Rattle.protocol.specs.State.{State}
 use Rattle.protocol.specs.Event.{Event, OPEN, CLOSE, CLOCK, GET, PUT, BEGIN, READ, END, BEAT, DELIVER, Refused, plain, numberOf}

@@ -10,8 +10,8 @@ use mathlib.Core.List.{List, [], _∷_, List·Memᴰ·head, List·Memᴰ·tail, 
 use mathlib.Core.Option.{Option, some, none}
 use lib.Dec.{T, ltb, eqb, lt→ltb}
 use mir.Facts.{T-not, not-T, and-yes, yes-and, and-no, or-yes, or-no, ltb-yes, ltb-no, eqb-yes}
+use Rattle.codec.proofs.Tests.{cond-elim, yes-or-l, yes-or-r, yes-eqb}
 use Rattle.vector.specs.Vec.{Vec}
-use Rattle.vector.proofs.Tests.{cond-elim, yes-or-l, yes-or-r, yes-eqb}
 use Rattle.vector.proofs.Vec.{LeV, le-refl, raised-up}
 use Rattle.protocol.specs.Record.{Setting, Id, Rec, rank, newer, newerOf, newest, raisedBy}
 use Rattle.protocol.specs.Past.{_∈_}

@@ -3,7 +3,8 @@ use Prim.Native.Nat.{ℕ}
 use mathlib.Core.Path.{_≡_, refl}
 use mathlib.Core.List.{List, [], _∷_}
 use lib.IntN.{pos, negsuc}
-use Rattle.vector.specs.Vec.{width, zeros, allBelow, atMost, atMostBut, largestOf, largest, withEntry, atLeast, larger, raised}
+use Rattle.codec.specs.Below.{allBelow}
+use Rattle.vector.specs.Vec.{width, zeros, atMost, atMostBut, largestOf, largest, withEntry, atLeast, larger, raised}
 use Rattle.protocol.specs.Record.{partOf, stampIn, recordsIn, rank, newer, newerOf, newest, ofKey, fitsPage, raisedBy}
 use Rattle.protocol.specs.State.{noPage, closed, opened, setup}
 use Rattle.protocol.specs.Event.{Event, OPEN, CLOSE, CLOCK, GET, PUT, BEGIN, READ, END, BEAT, DELIVER, Answer, Done, Stamped, Value, Refused, plain, shown}

@@ -9,8 +9,8 @@ use mathlib.Core.List.{List, [], _∷_, _++_, List·Memᴰ·head, List·Memᴰ·
 use mathlib.Core.Option.{Option, some, none}
 use lib.Dec.{T, eqb}
 use mir.Facts.{T-not, and-yes, yes-and, eqb-yes}
-use Rattle.vector.specs.Vec.{Vec, width, atMost, larger, raised}
-use Rattle.vector.proofs.Tests.{cond-elim, yes-eqb}
+use Rattle.codec.proofs.Tests.{cond-elim, yes-eqb}
+use Rattle.vector.specs.Vec.{Vec, width, atMost, larger}
 use Rattle.vector.proofs.Vec.{LeV, le-trans, at-most-le, le-at-most, at-most-but-le, larger-left, larger-right, raised-carried, raised-stamp}
 use Rattle.protocol.specs.Record.{Setting, partOf, Id, Rec, newest, ofKey, fitsPage, raisedBy}
 use Rattle.protocol.specs.State.{Net, Session, noPage, opened}

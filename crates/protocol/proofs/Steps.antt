@@ -10,8 +10,8 @@ use mathlib.Core.Option.{Option, some, none}
 use lib.IntN.{ℤ}
 use lib.Dec.{T}
 use mir.Facts.{T-not, ltb-yes}
+use Rattle.codec.proofs.Tests.{cond-elim}
 use Rattle.vector.specs.Vec.{Vec, width, zeros, largest, larger, withEntry}
-use Rattle.vector.proofs.Tests.{cond-elim}
 use Rattle.vector.proofs.Vec.{LeV, le-largest, with-entry-same, with-entry-up}
 use Rattle.protocol.specs.Record.{Setting, partOf, Id, Rec, Msg, Update, Beat, stampIn, recordsIn, newest, ofKey, fitsPage, raisedBy}
 use Rattle.protocol.specs.State.{Net, Session, State, noPage, closed, opened, setup}

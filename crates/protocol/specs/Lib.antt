@@ -12,3 +12,5 @@ pub mod Past
 pub mod Causal
 pub mod Count
 pub mod Promises
+-- ---- the search as a loop over slots goes: a word of contracts inside, proved to be `newest`
+pub mod Search

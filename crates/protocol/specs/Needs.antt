@@ -6,7 +6,8 @@ use mathlib.Core.List.{List, [], _∷_}
 use lib.ListN.{length}
 use lib.Dec.{leb, ltb, eqb}
 use lib.IntN.{ℤ, pos, negsuc}
-use Rattle.vector.specs.Vec.{Vec, allBelow, atMost, atMostBut, largest}
+use Rattle.codec.specs.Below.{allBelow}
+use Rattle.vector.specs.Vec.{Vec, atMost, atMostBut, largest}
 use Rattle.protocol.specs.Record.{Setting, partOf, Rec, Msg, Update, Beat}
 use Rattle.protocol.specs.State.{Mark}
 use Rattle.protocol.specs.Event.{Event, OPEN, CLOSE, CLOCK, GET, PUT, BEGIN, READ, END, BEAT, DELIVER, Refusal, plain}

@@ -6,15 +6,15 @@ use mathlib.Core.Path.{_≡_, ap, subst}
 use mathlib.Core.Bool.{false}
 use mathlib.Core.List.{List}
 use lib.ListN.{getD}
+use Rattle.codec.proofs.Tabulate.{tab-length}
 use Rattle.protocol.specs.State.{Mark}
 use Rattle.protocol.specs.Change.{Change}
-use Rattle.table.specs.Fits.{FitsSession}
-use Rattle.table.specs.Values.{asSession}
-use Rattle.table.specs.declared.Session.{Session}
-use Rattle.table.proofs.Tabulate.{tab-length}
-use Rattle.decision.specs.Decided.{changesOf}
-use Rattle.decision.specs.declared.Effect.{Effect}
-use Rattle.decision.specs.declared.Decided.{Decided}
+use Rattle.parts.specs.Fits.{FitsSession}
+use Rattle.parts.specs.Meaning.{asSession}
+use Rattle.parts.specs.declared.Session.{Session}
+use Rattle.outcome.specs.Decided.{changesOf}
+use Rattle.outcome.specs.declared.Effect.{Effect}
+use Rattle.outcome.specs.declared.Decided.{Decided}
 
 pub marks-few : (x : Session) → FitsSession (asSession x) → x .count ≤ 8
 unfolding asSession

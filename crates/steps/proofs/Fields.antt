@@ -7,8 +7,7 @@ use mathlib.Core.List.{List}
 use lib.Dec.{T, ltb, leb, eqb}
 use mir.Facts.{T-not, and-yes, ltb-yes, leb-yes}
 use Rattle.codec.specs.Le.{load}
-use Rattle.vector.proofs.Tests.{yes-eqb}
-use Rattle.table.specs.Decode.{settingIn}
+use Rattle.codec.proofs.Tests.{yes-eqb}
 use Rattle.event.specs.declared.Fields.{Fields}
 use Rattle.event.specs.Fields.{site, partition, session, from, count, uses}
 use Rattle.event.specs.Ranges.{inRange}
@@ -16,6 +15,7 @@ use Rattle.event.specs.Values.{fieldsIn, eventFor}
 use Rattle.event.specs.Event.{eventOf}
 use Rattle.event.proofs.Ranges.{code-row}
 use Rattle.event.proofs.Values.{Lawful, event-is, used-in-range}
+use Rattle.table.specs.Decode.{settingIn}
 
 -- the code is 1 to 10
 pub code-in : (t e : List ℕ) (x : Fields) → x ≡ fieldsIn e → Lawful (settingIn t) e → (0 < x .code) × (x .code < 11)

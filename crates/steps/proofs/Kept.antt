@@ -8,11 +8,11 @@ use mathlib.Core.List.{List}
 use lib.Dec.{eqb}
 use lib.ListN.{length}
 use borrow.Author.Tests.{eq-eqb, ne-eqb}
-use Rattle.vector.proofs.Tests.{cond-elim}
+use Rattle.codec.proofs.Tests.{cond-elim}
 use Rattle.protocol.specs.declared.Answer.{Answer}
-use Rattle.lawful.proofs.Steps.{Sound, step-sound}
 use Rattle.event.specs.Event.{codeLawful, eventOf}
 use Rattle.event.specs.Fields.{unusedZero}
+use Rattle.lawful.proofs.Steps.{Sound, step-sound}
 use Rattle.reader.specs.Pieces.{pieceOf}
 use Rattle.steps.specs.Step.{Called, gives, refusedWith, refused, stepOn}
 use Rattle.steps.specs.Run.{putAnswer, ran, turned, runBy, pieceCall, turnedAway}

@@ -17,19 +17,20 @@ use Rattle.protocol.specs.Needs.{Need, ranges, needs}
 use Rattle.protocol.specs.Serve.{Outcome, _and_, serve}
 use Rattle.protocol.specs.Step.{judge, decide, step}
 use Rattle.protocol.proofs.Steps.{view-setting}
-use Rattle.table.specs.Decode.{settingIn, decode}
-use Rattle.table.specs.Put.{putChanges}
 use Rattle.event.specs.Event.{codeLawful, eventOf, met}
 use Rattle.event.specs.Fields.{unusedZero}
+use Rattle.table.specs.Decode.{settingIn, decode}
+use Rattle.table.specs.Put.{putChanges}
 use Rattle.table.specs.Fits.{FitsAll}
 use Rattle.lawful.proofs.Facts.{formed}
 use Rattle.lawful.proofs.Fits.{step-fits}
 use Rattle.lawful.proofs.Steps.{Sound}
-use Rattle.decision.specs.Decided.{changesOf, outcomeOf, answered}
-use Rattle.decision.specs.declared.Decided.{Decided}
+use Rattle.outcome.specs.Decided.{changesOf, outcomeOf}
+use Rattle.outcome.specs.declared.Decided.{Decided}
+use Rattle.decision.specs.Answered.{answered}
 use Rattle.steps.specs.Waits.{Waits}
-use Rattle.steps.proofs.Waiting.{step-waits}
 use Rattle.steps.specs.Step.{gives, refused, fieldsTest, stepOn}
+use Rattle.steps.proofs.Waiting.{step-waits}
 
 -- ---- tests that are known
 

@@ -7,7 +7,7 @@ use mathlib.Core.List.{List, [], _∷_, _++_}
 use lib.Dec.{ltb, eqb}
 use lib.ListN.{length}
 use mir.Facts.{and-yes, ltb-yes, eqb-no}
-use Rattle.vector.proofs.Tests.{cond-elim}
+use Rattle.codec.proofs.Tests.{cond-elim}
 use Rattle.protocol.specs.Record.{Msg}
 use Rattle.protocol.specs.Event.{Event, OPEN, CLOSE, CLOCK, GET, PUT, BEGIN, READ, END, BEAT, DELIVER}
 use Rattle.protocol.specs.View.{place, look, viewAt, view}
@@ -18,7 +18,7 @@ use Rattle.protocol.proofs.Judge.{Met, met-both, judge-elim}
 use Rattle.protocol.proofs.Steps.{view-setting}
 use Rattle.table.specs.Decode.{settingIn, decode}
 use Rattle.lawful.proofs.Fits.{chan-length}
-use Rattle.decision.specs.Decided.{answered}
+use Rattle.decision.specs.Answered.{answered}
 use Rattle.steps.specs.Waits.{Waits}
 
 module _ (t : List ℕ) where

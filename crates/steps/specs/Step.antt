@@ -8,10 +8,10 @@ use Rattle.protocol.specs.declared.Answer.the-variants.{Refused}
 use Rattle.protocol.specs.Event.{plain}
 use Rattle.protocol.specs.Needs.{ranges}
 use Rattle.protocol.specs.Step.{step}
-use Rattle.table.specs.Decode.{settingIn, decode}
-use Rattle.table.specs.Put.{putChanges}
 use Rattle.event.specs.Event.{codeLawful, eventOf, met}
 use Rattle.event.specs.Fields.{unusedZero}
+use Rattle.table.specs.Decode.{settingIn, decode}
+use Rattle.table.specs.Put.{putChanges}
 
 pub record Called : Type 0 where
   pub answer : Answer

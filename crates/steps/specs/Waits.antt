@@ -2,8 +2,8 @@
 use Prim.Native.Nat.{ℕ, _<_}
 use mathlib.Core.List.{List, [], _∷_}
 use Rattle.protocol.specs.Change.{Change, SetSession, SetClock, Publish, Receive}
+use Rattle.parts.specs.Channel.{waitIn}
 use Rattle.table.specs.Parts.{placeOf, siteOf, channelOf}
-use Rattle.table.specs.Channel.{waitIn}
 use Rattle.table.specs.Put.{putChange}
 
 abbrev pub WaitsFor : Change → List ℕ → Type 0

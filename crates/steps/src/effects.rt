@@ -6,12 +6,12 @@ ghost use lib.ListN.{length};
 ghost use Rattle.codec.specs.Le.{load};
 ghost use Rattle.table.specs.Put.{putChanges};
 ghost use Rattle.table.specs.Fits.{FitsAll};
-ghost use Rattle.decision.specs.Decided.{changesOf};
+ghost use Rattle.outcome.specs.Decided.{changesOf};
 ghost use Rattle.steps.specs.Waits.{Waits};
-use decision::Decided;
-use decision::Effect;
-use table::Letter;
-use table::Message;
+use outcome::Decided;
+use outcome::Effect;
+use record::Letter;
+use record::Message;
 use vector::Vector;
 
 pub fn carry_out(t: &mut [u8], d: Decided)

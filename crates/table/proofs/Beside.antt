@@ -8,10 +8,10 @@ use borrow.Author.Tests.{ne-eqb}
 use lib.ListN.{length}
 use Rattle.codec.specs.Part.{Keeps}
 use Rattle.protocol.specs.Record.{Msg}
+use Rattle.parts.specs.Node.{published, received}
+use Rattle.parts.proofs.Lengths.{length-published, length-received}
 use Rattle.table.specs.Parts.{siteOf, onSite, onNode}
-use Rattle.table.specs.Node.{published, received}
-use Rattle.table.specs.Room.{Free}
-use Rattle.table.proofs.Lengths.{length-published, length-received}
+use Rattle.table.specs.Free.{Free}
 use Rattle.table.proofs.Parts.{length-onNode, channel-onNode, site-onSite}
 
 pub free-published : (m : ℕ) (x : Msg) (site : List ℕ) (p n : ℕ) → length site ≡ 13056 → p < 4 → n ≤ 3 → Free n p site → Free n p (onNode p (published m x) site)

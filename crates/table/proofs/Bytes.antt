@@ -17,11 +17,11 @@ use Rattle.vector.specs.Entries.{putFirst, putVec}
 use Rattle.protocol.specs.Record.{Rec, Msg, Update, Beat, stampIn}
 use Rattle.protocol.specs.State.{Mark, Session}
 use Rattle.protocol.specs.Change.{Change, SetSession, SetClock, Publish, Receive}
+use Rattle.record.specs.RecordBytes.{putFields, putRecord, putMessage}
+use Rattle.parts.specs.Node.{heldIn, slotAt, clockSet, stored, published, received}
+use Rattle.parts.specs.Channel.{frontIn, waitIn, ringAt, pushed, popped}
+use Rattle.parts.specs.Session.{flag, putMarks, putSession}
 use Rattle.table.specs.Parts.{sessionAt, siteAt, nodeAt, channelAt, placeOf, onSession, onSite, onNode, onChannel}
-use Rattle.table.specs.Letter.{putFields, putRecord, putMessage}
-use Rattle.table.specs.Node.{heldIn, slotAt, clockSet, stored, published, received}
-use Rattle.table.specs.Channel.{frontIn, waitIn, ringAt, pushed, popped}
-use Rattle.table.specs.Session.{flag, putMarks, putSession}
 use Rattle.table.specs.Put.{sentTo, publishedOn, putChange, putChanges}
 use Rattle.table.proofs.Parts.{part-every}
 

@@ -4,52 +4,24 @@ use Prim.Native.Nat.{ℕ, zero, suc, _-_, _≤_, _<_}
 use native.Mathlib.Decide.{ℕ-discrete, decLt}
 use native.Mathlib.Omega.{arith}
 use mathlib.Core.Path.{_≡_, refl, sym, ap, ap₂, _∙_}
-use mathlib.Core.Bool.{Bool, true, false, cond, not, _&&_, _||_}
+use mathlib.Core.Bool.{Bool, cond, not, _&&_, _||_}
 use mathlib.Core.List.{List}
 use lib.Dec.{T, ltb, eqb, lt→ltb}
 use lib.ListN.{length}
 use mir.Facts.{and-yes, yes-and, ltb-yes, eqb-yes, eqb-no, yes-eqb, no-eqb}
 use borrow.Author.Tests.{lt-ltb, le-ltb, eq-eqb, ne-eqb}
 use Rattle.codec.specs.Part.{Keeps}
+use Rattle.codec.proofs.Tests.{cond-and, cond-and₃, cond-both, cond-more, cond-no, same-test}
 use Rattle.protocol.specs.Record.{Msg}
 use Rattle.protocol.specs.Change.{at}
+use Rattle.parts.specs.Node.{published}
+use Rattle.parts.specs.Channel.{pushed}
+use Rattle.parts.proofs.Lengths.{length-published, length-pushed}
 use Rattle.table.specs.Parts.{tableLength, placeOf, siteOf, nodeOf, channelOf, onSite, onNode, onChannel}
-use Rattle.table.specs.Node.{published}
-use Rattle.table.specs.Channel.{pushed}
 use Rattle.table.specs.Put.{sentTo, publishedOn}
-use Rattle.table.proofs.Lengths.{length-published, length-pushed}
 use Rattle.table.proofs.Parts.{length-onNode, node-onNode, channel-onNode, length-onChannel, channel-onChannel, node-onChannel, read-onSite}
 
 -- ---- choices
-
-pub same-test : (a b : Bool) → (T a → T b) → (T b → T a) → a ≡ b
-same-test true true f g = refl
-same-test true false f g = absurd (f tt)
-same-test false true f g = absurd (g tt)
-same-test false false f g = refl
-
-module _ {ℓ} {A : Type ℓ} where
-  pub cond-no : (b : Bool) (x y : A) → (T b → ⊥) → y ≡ cond b x y
-  cond-no true x y n = absurd (n tt)
-  cond-no false x y n = refl
-
-  pub cond-both : (b : Bool) (x : A) → cond b x x ≡ x
-  cond-both true x = refl
-  cond-both false x = refl
-
-  cond-and : (a b : Bool) (x y : A) → cond a (cond b x y) y ≡ cond (a && b) x y
-  cond-and true b x y = refl
-  cond-and false b x y = refl
-
-  cond-and₃ : (a b c : Bool) (x y : A) → cond a (cond (b && c) x y) y ≡ cond (a && b && c) x y
-  cond-and₃ true b c x y = refl
-  cond-and₃ false b c x y = refl
-
-  -- f done where a and c hold, then where a and b hold
-  cond-more : (f : A → A) (a b c d : Bool) (x y : A) → y ≡ cond (a && c) (f x) x → d ≡ (b || c) → (T b → c ≡ false) → cond (a && b) (f y) y ≡ cond (a && d) (f x) x
-  cond-more f false b c d x y e q n = e
-  cond-more f true true c d x y e q n = ap f (e ∙ ap (λ k. cond k (f x) x) (n tt)) ∙ ap (λ k. cond k (f x) x) (sym q)
-  cond-more f true false c d x y e q n = e ∙ ap (λ k. cond k (f x) x) (sym q)
 
 ltb-suc : (e n : ℕ) → ltb e (suc n) ≡ (eqb e n || ltb e n)
 ltb-suc e n = go (ℕ-discrete e n)

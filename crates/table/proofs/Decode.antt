@@ -10,23 +10,24 @@ use lib.ListN.{length}
 use mir.Facts.{T-not, and-yes, yes-and, ltb-yes, eqb-yes, eqb-no, no-eqb}
 use Rattle.codec.specs.Le.{load}
 use Rattle.codec.specs.Part.{Keeps}
+use Rattle.codec.proofs.Tests.{cond-no, cond-both}
 use Rattle.vector.specs.Vec.{withEntry, atLeast}
 use Rattle.protocol.specs.Record.{Msg, stampIn, recordsIn}
 use Rattle.protocol.specs.State.{Session, State}
 use Rattle.protocol.specs.Change.{Change, SetSession, SetClock, Publish, Receive, upd, at, setClock, publish, receive, apply, applyAll}
+use Rattle.parts.specs.Node.{clockIn, heardIn, storeIn, clockSet, published, received}
+use Rattle.parts.specs.Channel.{queueIn, pushed, popped}
+use Rattle.parts.specs.Session.{sessionIn, putSession}
+use Rattle.parts.proofs.Lengths.{length-clockSet, length-received, length-popped, length-putSession}
+use Rattle.parts.proofs.NodeBytes.{clock-clockSet, heard-clockSet, store-clockSet, clock-published, heard-published, store-published, clock-received, heard-received, store-received}
+use Rattle.parts.proofs.ChannelBytes.{queue-pushed, queue-popped}
+use Rattle.parts.proofs.SessionBytes.{session-putSession}
 use Rattle.table.specs.Parts.{tableLength, placeOf, sessionOf, siteOf, nodeOf, channelOf, onSite, onNode, onChannel}
-use Rattle.table.specs.Node.{clockIn, heardIn, storeIn, clockSet, published, received}
-use Rattle.table.specs.Channel.{queueIn, pushed, popped}
-use Rattle.table.specs.Session.{sessionIn, putSession}
 use Rattle.table.specs.Decode.{settingIn, decode}
 use Rattle.table.specs.Put.{publishedOn, putChange, putChanges}
 use Rattle.table.specs.Fits.{FitsPublish, FitsReceive, Fits, FitsAll}
-use Rattle.table.proofs.Lengths.{length-clockSet, length-received, length-popped, length-putSession}
 use Rattle.table.proofs.Parts.{length-session, length-onSession, session-onSession, site-onSession, load-onSession, length-onSite, session-onSite, load-onSite, bytes-nodeOf, bytes-channelOf, length-nodeOf, length-channelOf}
-use Rattle.table.proofs.NodeBytes.{clock-clockSet, heard-clockSet, store-clockSet, clock-published, heard-published, store-published, clock-received, heard-received, store-received}
-use Rattle.table.proofs.ChannelBytes.{queue-pushed, queue-popped}
-use Rattle.table.proofs.SessionBytes.{session-putSession}
-use Rattle.table.proofs.Changes.{cond-no, cond-both, at-yes, sent, sentBy, sentBy-yes, sent-sentBy, taken, takenFrom, taken-takenFrom, place-lt, onNode-keeps, node-atNode, channel-atNode, onChannel-keeps, node-atChannel, channel-atChannel, publishedOn-keeps, node-atPublish, channel-atPublish}
+use Rattle.table.proofs.Changes.{at-yes, sent, sentBy, sentBy-yes, sent-sentBy, taken, takenFrom, taken-takenFrom, place-lt, onNode-keeps, node-atNode, channel-atNode, onChannel-keeps, node-atChannel, channel-atChannel, publishedOn-keeps, node-atPublish, channel-atPublish}
 
 -- ---- a change keeps a thing's length
 

@@ -10,21 +10,21 @@ use lib.Dec.{ltb, eqb}
 use lib.ListN.{length, getD, replicate, length-replicate, getD-replicate, List·getD-eq-default}
 use mir.Facts.{fits-lit}
 use Rattle.codec.specs.Le.{load, put, span, Bytes}
+use Rattle.codec.specs.Tabulate.{tabulate}
 use Rattle.codec.proofs.Le.{length-put, getD-put-other, load-put, load-put-other}
+use Rattle.codec.proofs.Tests.{cond-elim}
+use Rattle.codec.proofs.Tabulate.{tab-none}
 use Rattle.vector.specs.Vec.{zeros, width}
 use Rattle.vector.specs.Entries.{loadVec}
-use Rattle.vector.proofs.Tests.{cond-elim}
 use Rattle.protocol.specs.Record.{Setting}
 use Rattle.protocol.specs.State.{noPage, closed, setup}
+use Rattle.record.specs.RecordBytes.{recordAt, messageAt}
+use Rattle.parts.specs.Node.{clockIn, heardIn, heldIn, slotAt, storeIn}
+use Rattle.parts.specs.Channel.{frontIn, waitIn, ringAt, queueIn}
+use Rattle.parts.specs.Session.{markAt, sessionIn}
 use Rattle.table.specs.Parts.{tableLength, placeOf, sessionOf, siteOf, nodeOf, channelOf}
-use Rattle.table.specs.Letter.{recordAt, messageAt}
-use Rattle.table.specs.Node.{clockIn, heardIn, heldIn, slotAt, storeIn}
-use Rattle.table.specs.Channel.{frontIn, waitIn, ringAt, queueIn}
-use Rattle.table.specs.Session.{markAt, sessionIn}
-use Rattle.table.specs.Tabulate.{tabulate}
 use Rattle.table.specs.Decode.{settingIn, decode}
 use Rattle.table.specs.Put.{fresh}
-use Rattle.table.proofs.Tabulate.{tab-none}
 use Rattle.table.proofs.Parts.{Every, every-session, every-site, every-node, every-channel}
 use Rattle.table.proofs.Bytes.{bytes-put}
 use Rattle.table.proofs.Decode.{state-ext}

@@ -9,10 +9,10 @@ use borrow.Author.Tests.{eq-eqb, ne-eqb}
 use lib.ListN.{length}
 use Rattle.codec.specs.Part.{Keeps}
 use Rattle.protocol.specs.Record.{Msg}
+use Rattle.parts.specs.Channel.{pushed}
+use Rattle.parts.proofs.Lengths.{length-pushed}
 use Rattle.table.specs.Parts.{channelOf, onChannel}
-use Rattle.table.specs.Channel.{pushed}
 use Rattle.table.specs.Put.{sentTo}
-use Rattle.table.proofs.Lengths.{length-pushed}
 use Rattle.table.proofs.Parts.{length-onChannel, channel-onChannel}
 
 pub sent-none : (m p : ℕ) (x : Msg) (site : List ℕ) → sentTo 0 m p x site ≡ site

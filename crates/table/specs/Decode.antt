@@ -6,10 +6,10 @@ use lib.Dec.{ltb, eqb}
 use Rattle.codec.specs.Le.{load}
 use Rattle.protocol.specs.Record.{Setting}
 use Rattle.protocol.specs.State.{State}
+use Rattle.parts.specs.Node.{clockIn, heardIn, storeIn}
+use Rattle.parts.specs.Channel.{queueIn}
+use Rattle.parts.specs.Session.{sessionIn}
 use Rattle.table.specs.Parts.{placeOf, sessionOf, siteOf, nodeOf, channelOf}
-use Rattle.table.specs.Node.{clockIn, heardIn, storeIn}
-use Rattle.table.specs.Channel.{queueIn}
-use Rattle.table.specs.Session.{sessionIn}
 
 -- byte 0 the number of sites, byte 1 the number of partitions
 unfoldable pub settingIn : List ℕ → Setting

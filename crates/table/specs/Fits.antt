@@ -3,47 +3,17 @@
 use Prim.Native.Nat.{ℕ, _-_, _≤_, _<_}
 use mathlib.Core.Path.{_≡_}
 use mathlib.Core.List.{List, [], _∷_}
-use lib.ListN.{length}
 use Rattle.codec.specs.Le.{load, span, Bytes}
-use Rattle.codec.specs.Level.{FitsLevel}
-use Rattle.vector.specs.Vec.{Vec, width}
-use Rattle.protocol.specs.Record.{Rec, Msg, Update, Beat}
-use Rattle.protocol.specs.State.{Mark, Session}
+use Rattle.protocol.specs.Record.{Msg}
 use Rattle.protocol.specs.Change.{Change, SetSession, SetClock, Publish, Receive}
+use Rattle.record.specs.Fits.{FitsMsg}
+use Rattle.parts.specs.Channel.{waitIn}
+use Rattle.parts.specs.Room.{Room}
+use Rattle.parts.specs.Fits.{FitsSession}
 use Rattle.table.specs.Parts.{siteOf, nodeOf, channelOf}
-use Rattle.table.specs.Channel.{waitIn}
-use Rattle.table.specs.Room.{Room}
 use Rattle.table.specs.Put.{putChange}
 
 -- ---- a value fits its bytes
-
-pub record FitsVec (v : Vec) : Type 0 where
-  pub below : (i : ℕ) → v i < span 8
-  pub beyond : (i : ℕ) → width ≤ i → v i ≡ 0
-
-pub record FitsRec (r : Rec) : Type 0 where
-  pub key : r .id .key < 256
-  pub source : r .id .source < 256
-  pub stamp : r .id .stamp < span 8
-  pub quality : r .quality < 256
-  pub level : FitsLevel (r .level)
-  pub carried : FitsVec (r .carried)
-
-abbrev pub FitsMsg : Msg → Type 0
-FitsMsg (Update r) = FitsRec r
-FitsMsg (Beat t) = t < span 8
-
-abbrev pub FitsMarks : List Mark → Type 0
-FitsMarks [] = Unit {0}
-FitsMarks (m ∷ ms) = (m .key < 256) × FitsMarks ms
-
-pub record FitsSession (x : Session) : Type 0 where
-  pub site : x .site < 256
-  pub vec : FitsVec (x .vec)
-  pub page : FitsVec (x .page .vec)
-  pub gathered : FitsVec (x .page .gathered)
-  pub count : length (x .page .marks) ≤ 8
-  pub marks : FitsMarks (x .page .marks)
 
 -- ---- a change fits the table
 

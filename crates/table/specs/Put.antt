@@ -5,10 +5,10 @@ use lib.ListN.{replicate}
 use Rattle.codec.specs.Le.{load, put}
 use Rattle.protocol.specs.Record.{Setting, Msg}
 use Rattle.protocol.specs.Change.{Change, SetSession, SetClock, Publish, Receive}
+use Rattle.parts.specs.Node.{clockSet, published, received}
+use Rattle.parts.specs.Channel.{pushed, popped}
+use Rattle.parts.specs.Session.{putSession}
 use Rattle.table.specs.Parts.{tableLength, placeOf, onSession, onSite, onNode, onChannel}
-use Rattle.table.specs.Node.{clockSet, published, received}
-use Rattle.table.specs.Channel.{pushed, popped}
-use Rattle.table.specs.Session.{putSession}
 
 -- the message of node (m, p) goes into the first n of its site's channels
 unfoldable pub sentTo : (n m p : ℕ) → Msg → List ℕ → List ℕ

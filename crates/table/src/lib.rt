@@ -6,67 +6,19 @@ ghost use Prim.Native.Nat.{_-_, _≤_, _<_};
 ghost use lib.ListN.{length};
 ghost use Rattle.codec.specs.Le.{load};
 ghost use Rattle.protocol.specs.Change.{SetSession, SetClock, Publish, Receive};
+ghost use Rattle.record.specs.Meaning.{asMessage};
+ghost use Rattle.parts.specs.Node.{received};
+ghost use Rattle.parts.specs.Channel.{waitIn, popped};
+ghost use Rattle.parts.specs.Room.{Room};
+ghost use Rattle.parts.specs.Meaning.{asSession};
 ghost use Rattle.table.specs.Parts.{placeOf, siteOf, nodeOf, channelOf, onSite, onNode, onChannel};
-ghost use Rattle.table.specs.Node.{received};
-ghost use Rattle.table.specs.Channel.{waitIn, popped};
 ghost use Rattle.table.specs.Put.{putChange};
-ghost use Rattle.table.specs.Room.{Room, Free};
-ghost use Rattle.table.specs.Values.{asMessage, asSession};
-use vector::Vector;
+ghost use Rattle.table.specs.Free.{Free};
+use parts::Session;
+use parts::sessions;
+use record::Letter;
 
-pub mod channels;
-pub mod letters;
-pub mod nodes;
-pub mod sessions;
 pub mod sites;
-
-// A stored record.
-pub struct Reading {
-    pub key: u8,
-    pub source: u8,
-    pub quality: u8,
-    pub level: i32,
-    pub stamp: u64,
-    pub carried: Vector,
-}
-
-// "a delivery carries one message, which is either an update or a heartbeat": numbers, an update's vector stands beside it.
-pub enum Message {
-    Update {
-        key: u8,
-        source: u8,
-        quality: u8,
-        level: i32,
-        stamp: u64,
-    },
-    Heartbeat {
-        stamp: u64,
-    },
-}
-
-pub struct Letter {
-    pub message: Message,
-    pub carried: Vector,
-}
-
-// A session and its page: `page` is the page's vector, and the keys and marks below `count` are in use.
-pub struct Session {
-    pub open: bool,
-    pub site: u8,
-    pub vec: Vector,
-    pub paged: bool,
-    pub count: u8,
-    pub keys: [u8; 8],
-    pub marks: [bool; 8],
-    pub page: Vector,
-    pub gathered: Vector,
-}
-
-pub fn length() -> usize
-    ensures { λ r. ⌜ r ≡ 57344 ⌝ }
-{
-    57344
-}
 
 // The place of site m among the sites other than i: the number of i's channel to m.
 pub fn place_of(i: usize, m: usize) -> usize

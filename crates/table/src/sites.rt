@@ -3,15 +3,16 @@
 ghost use mathlib.Core.Path.{_≡_};
 ghost use Prim.Native.Nat.{_≤_, _<_};
 ghost use lib.ListN.{length};
+ghost use Rattle.record.specs.Meaning.{asMessage};
+ghost use Rattle.parts.specs.Node.{clockSet, published, received};
+ghost use Rattle.parts.specs.Channel.{waitIn, pushed, popped};
+ghost use Rattle.parts.specs.Room.{Room};
 ghost use Rattle.table.specs.Parts.{nodeOf, channelOf, onNode, onChannel};
-ghost use Rattle.table.specs.Node.{clockSet, published, received};
-ghost use Rattle.table.specs.Channel.{waitIn, pushed, popped};
 ghost use Rattle.table.specs.Put.{sentTo, publishedOn};
-ghost use Rattle.table.specs.Room.{Room, Free};
-ghost use Rattle.table.specs.Values.{asMessage};
-use crate::Letter;
-use crate::channels;
-use crate::nodes;
+ghost use Rattle.table.specs.Free.{Free};
+use parts::channels;
+use parts::nodes;
+use record::Letter;
 
 pub fn set_clock(site: &mut [u8], p: usize, t: u64)
     requires { ⌜ (length (now site) ≡ 13056) × (p < 4) ⌝ }

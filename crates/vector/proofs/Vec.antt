@@ -5,27 +5,14 @@ use native.Mathlib.Decide.{decLt}
 use native.Mathlib.Omega.{arith}
 use mathlib.Core.Path.{_≡_, refl, sym, subst, fun-ext}
 use mathlib.Core.Logic.{_⊎_, inl, inr, ⊎-elim}
-use mathlib.Core.Bool.{Bool, _||_}
+use mathlib.Core.Bool.{_||_}
 use lib.Dec.{T, leb, eqb, le→leb, eqb-refl}
-use mir.Facts.{T-not, and-yes, yes-and, or-yes, leb-yes, eqb-yes}
-use Rattle.vector.specs.Vec.{Vec, width, zeros, allBelow, atMost, atMostBut, largestOf, largest, withEntry, atLeast, larger, raised}
-use Rattle.vector.proofs.Tests.{cond-elim}
+use mir.Facts.{T-not, or-yes, leb-yes, eqb-yes}
+use Rattle.codec.proofs.Tests.{cond-elim}
+use Rattle.codec.proofs.Below.{all-below-at, all-below}
+use Rattle.vector.specs.Vec.{Vec, width, zeros, atMost, atMostBut, largestOf, largest, withEntry, atLeast, larger, raised}
 
 -- ---- tests of every entry
-
-pub all-below-at : (n : ℕ) (f : ℕ → Bool) → T (allBelow n f) → (i : ℕ) → i < n → T (f i)
-unfolding allBelow
-all-below-at zero f t i l = absurd (omega arith)
-all-below-at (suc n) f t i l = go (all-below-at n f (and-yes (allBelow n f) (f n) t .0) i) (decLt i n)
-  where
-    go : (i < n → T (f i)) → Dec (i < n) → T (f i)
-    go r (yes k) = r k
-    go r (no k) = subst (λ j. T (f j)) (let e : n ≡ i = omega arith in e) (and-yes (allBelow n f) (f n) t .1)
-
-pub all-below : (n : ℕ) (f : ℕ → Bool) → ((i : ℕ) → i < n → T (f i)) → T (allBelow n f)
-unfolding allBelow
-all-below zero f h = tt
-all-below (suc n) f h = yes-and (allBelow n f) (f n) (all-below n f (λ i l. h i (omega arith))) (h n (omega arith))
 
 -- ---- the order, entry by entry
 

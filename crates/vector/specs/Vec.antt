@@ -1,8 +1,9 @@
 -- Vectors of stamps, an entry for each site: functions of the site's number. In order: the width, all-zero, tests, and what raises a vector.
 -- The laws are in proofs/Vec, over any number of entries; vectors as the code and the table hold them are in Entries. Assumes nothing.
 use Prim.Native.Nat.{ℕ, zero, suc, max}
-use mathlib.Core.Bool.{Bool, true, cond, _&&_, _||_}
+use mathlib.Core.Bool.{Bool, cond, _||_}
 use lib.Dec.{leb, eqb}
+use Rattle.codec.specs.Below.{allBelow}
 
 -- "A vector has four entries and an all-zero start"
 unfoldable pub width : ℕ
@@ -13,11 +14,6 @@ Vec = ℕ → ℕ
 
 unfoldable pub zeros : Vec
 zeros i = 0
-
--- the test f holds at every number below n
-unfoldable pub allBelow : ℕ → (ℕ → Bool) → Bool
-allBelow zero f = true
-allBelow (suc n) f = allBelow n f && f n
 
 -- every entry of v is at most w's
 unfoldable pub atMost : Vec → Vec → Bool

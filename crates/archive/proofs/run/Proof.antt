@@ -2,15 +2,15 @@
 use mathlib.Core.Path.{sym, ap, _∙_}
 use native.Mathlib.Omega.{arith}
 use borrow.Author.Tests.{not-true, not-false}
-use Rattle.steps.specs.Run.{runBy}
 use Rattle.lawful.proofs.Steps.{Sound}
+use Rattle.steps.specs.Run.{runBy}
 use Rattle.steps.proofs.Stepped.{is-yes}
 use Rattle.archive.specs.Call.{stepCall}
 use Rattle.archive.specs.Run.{piecesOf, runCall}
 use Rattle.archive.proofs.Calls.{run-no-table, run-ill, run-formed}
-use borrow.Author.Needs.{needs}
 use Rattle.archive.proofs.run.Statement.{statement}
 use Rattle.archive.proofs.run.Tie as tie
+use borrow.Author.Needs.{needs}
 
 pieces-for-requires : tie.Need-pieces-for-requires
 pieces-for-requires c κs = search needs

@@ -4,9 +4,9 @@ use borrow.Author.Tests.{not-true, not-false}
 use Rattle.steps.specs.Step.{gives}
 use Rattle.steps.proofs.Stepped.{is-yes}
 use Rattle.archive.proofs.Calls.{step-no-table, step-no-event, step-ill, step-formed}
-use borrow.Author.Needs.{needs}
 use Rattle.archive.proofs.step.Statement.{statement}
 use Rattle.archive.proofs.step.Tie as tie
+use borrow.Author.Needs.{needs}
 
 refused-requires : tie.Need-refused-requires
 refused-requires c κs = search needs

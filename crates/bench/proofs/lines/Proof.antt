@@ -5,9 +5,9 @@ use mathlib.Core.Path.{_≡_, ap}
 use native.Mathlib.Omega.{arith}
 use lib.ListN.{length}
 use Rattle.reader.proofs.Pieces.{length-piece}
-use borrow.Author.Needs.{needs}
 use Rattle.bench.proofs.lines.Statement.{statement}
 use Rattle.bench.proofs.lines.Tie as tie
+use borrow.Author.Needs.{needs}
 
 abbrev Inv-loop : tie.InvT-loop
 Inv-loop events answers n place out₀ p₀ to₀ i₀ out p to i = (i ≤ n) × (p ≡ place + i)

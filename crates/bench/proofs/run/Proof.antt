@@ -4,9 +4,9 @@ use mathlib.Core.Path.{_≡_}
 use lib.ListN.{length}
 use native.Mathlib.Omega.{arith}
 use Rattle.archive.specs.Run.{piecesOf}
-use borrow.Author.Needs.{needs}
 use Rattle.bench.proofs.run.Statement.{statement}
 use Rattle.bench.proofs.run.Tie as tie
+use borrow.Author.Needs.{needs}
 
 abbrev Inv-loop : tie.InvT-loop
 Inv-loop buf₀ table₀ answers₀ out₀ place₀ buf table answers out place = length buf ≡ length buf₀

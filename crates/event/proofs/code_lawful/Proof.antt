@@ -1,8 +1,8 @@
 -- `event::code_lawful` meets its contract, by what the load ensures. Assumes nothing.
 use Rattle.event.specs.Event.{codeLawful}
-use borrow.Author.Needs.{needs}
 use Rattle.event.proofs.code_lawful.Statement.{statement}
 use Rattle.event.proofs.code_lawful.Tie as tie
+use borrow.Author.Needs.{needs}
 
 load-u8-requires : tie.Need-load-u8-requires
 load-u8-requires c κs = search needs

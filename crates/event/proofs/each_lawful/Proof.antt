@@ -2,12 +2,12 @@
 use mathlib.Core.Path.{_≡_, sym}
 use Prim.Native.Nat.{_-_, _≤_}
 use native.Mathlib.Omega.{arith}
-use Rattle.vector.specs.Vec.{allBelow}
+use Rattle.codec.specs.Below.{allBelow}
 use Rattle.vector.proofs.Entries.{allBelow-none, allBelow-step}
 use Rattle.event.specs.Ranges.{fieldLawful}
-use borrow.Author.Needs.{needs}
 use Rattle.event.proofs.each_lawful.Statement.{statement}
 use Rattle.event.proofs.each_lawful.Tie as tie
+use borrow.Author.Needs.{needs}
 
 abbrev Inv-loop : tie.InvT-loop
 Inv-loop used zero within all₀ f₀ all f = (f ≤ 10) × (all ≡ allBelow f (fieldLawful used zero within))

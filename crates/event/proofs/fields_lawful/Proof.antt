@@ -3,9 +3,9 @@ use Rattle.event.specs.Fields.{zeroAt}
 use Rattle.event.specs.Values.{fieldsIn}
 use Rattle.event.specs.Ranges.{fieldsLawful}
 use Rattle.event.proofs.Ranges.{code-row, fields-lawful}
-use borrow.Author.Needs.{needs}
 use Rattle.event.proofs.fields_lawful.Statement.{statement}
 use Rattle.event.proofs.fields_lawful.Tie as tie
+use borrow.Author.Needs.{needs}
 
 load-fields-requires : tie.Need-load-fields-requires
 load-fields-requires c κs = search needs

@@ -2,9 +2,9 @@
 use mir.Facts.{toZ-ofZ}
 use Rattle.event.specs.Event.{timeOf, levelIn}
 use Rattle.event.specs.Values.{fieldsIn}
-use borrow.Author.Needs.{needs}
 use Rattle.event.proofs.load_fields.Statement.{statement}
 use Rattle.event.proofs.load_fields.Tie as tie
+use borrow.Author.Needs.{needs}
 
 load-u8-requires : tie.Need-load-u8-requires
 load-u8-requires c κs = search needs

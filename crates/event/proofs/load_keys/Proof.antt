@@ -6,11 +6,10 @@ use borrow.Author.Count.{below-none}
 use lib.ListN.{length, length-set}
 use Rattle.codec.specs.Le.{load}
 use Rattle.vector.specs.Entries.{entry}
-use Rattle.vector.proofs.Entries.{Agree, fill-more}
-use Rattle.event.proofs.Tabulate.{tabulate-is}
-use borrow.Author.Needs.{needs}
+use Rattle.vector.proofs.Entries.{Agree, fill-more, tabulate-is}
 use Rattle.event.proofs.load_keys.Statement.{statement}
 use Rattle.event.proofs.load_keys.Tie as tie
+use borrow.Author.Needs.{needs}
 
 abbrev Inv-loop : tie.InvT-loop
 Inv-loop e keys₀ i₀ keys i = (i ≤ 8) × (length keys ≡ 8) × Agree i (entry keys) (λ k. load 1 e (20 + k))

@@ -1,8 +1,8 @@
 -- `lawful::session_at` meets its contract: what is lent is the session. Assumes nothing.
 use Rattle.table.proofs.Lent.{session-lent}
-use borrow.Author.Needs.{needs}
 use Rattle.lawful.proofs.session_at.Statement.{statement}
 use Rattle.lawful.proofs.session_at.Tie as tie
+use borrow.Author.Needs.{needs}
 
 mul-off : tie.Need-mul-off
 mul-off c = search needs

@@ -1,8 +1,8 @@
 -- `lawful::site_at` meets its contract: what is lent is the site. Assumes nothing.
 use Rattle.table.proofs.Lent.{site-lent}
-use borrow.Author.Needs.{needs}
 use Rattle.lawful.proofs.site_at.Statement.{statement}
 use Rattle.lawful.proofs.site_at.Tie as tie
+use borrow.Author.Needs.{needs}
 
 mul-off : tie.Need-mul-off
 mul-off c = search needs

@@ -3,14 +3,14 @@ use mathlib.Core.Path.{_≡_, sym}
 use mathlib.Core.Bool.{true}
 use Prim.Native.Nat.{_-_, _≤_}
 use native.Mathlib.Omega.{arith}
-use Rattle.vector.specs.Vec.{allBelow}
+use Rattle.codec.specs.Below.{allBelow}
+use Rattle.codec.proofs.Tests.{fails, passes}
 use Rattle.vector.proofs.Entries.{allBelow-none, allBelow-more, allBelow-fails}
 use Rattle.table.specs.Parts.{siteOf}
 use Rattle.lawful.specs.WellFormed.{siteFormed}
-use Rattle.lawful.proofs.Tested.{fails, passes}
-use borrow.Author.Needs.{needs}
 use Rattle.lawful.proofs.sites_formed.Statement.{statement}
 use Rattle.lawful.proofs.sites_formed.Tie as tie
+use borrow.Author.Needs.{needs}
 
 abbrev Inv-loop : tie.InvT-loop
 Inv-loop t sites parts m₀ m = (m ≤ 4) × (allBelow m (λ k. siteFormed (record { sites = sites; parts = parts }) k (siteOf t k)) ≡ true)

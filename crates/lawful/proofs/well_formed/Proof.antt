@@ -4,14 +4,14 @@ use mathlib.Core.Bool.{true, _&&_}
 use Prim.Native.Nat.{_<_}
 use lib.Dec.{T, leb, ltb}
 use mir.Facts.{and-yes, ltb-yes}
+use Rattle.codec.proofs.Tests.{fails, passes}
 use Rattle.protocol.specs.Record.{Setting}
 use Rattle.table.specs.Decode.{settingIn}
 use Rattle.lawful.specs.Values.{settingLawful}
 use Rattle.lawful.specs.WellFormed.{wellFormed}
-use Rattle.lawful.proofs.Tested.{fails, passes}
-use borrow.Author.Needs.{needs}
 use Rattle.lawful.proofs.well_formed.Statement.{statement}
 use Rattle.lawful.proofs.well_formed.Tie as tie
+use borrow.Author.Needs.{needs}
 
 -- a lawful number of partitions is not 0
 parts-some : (c : Setting) → settingLawful c ≡ true → 0 < c .parts

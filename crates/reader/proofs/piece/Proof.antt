@@ -1,9 +1,9 @@
 -- `reader::piece` meets its contract: none beyond the end, and otherwise what is cut out. Assumes nothing.
 use native.Mathlib.Omega.{arith}
 use Rattle.reader.proofs.Pieces.{piece-cut, piece-none}
-use borrow.Author.Needs.{needs}
 use Rattle.reader.proofs.piece.Statement.{statement}
 use Rattle.reader.proofs.piece.Tie as tie
+use borrow.Author.Needs.{needs}
 
 sub-result : tie.Need-sub-result
 sub-result c = search needs

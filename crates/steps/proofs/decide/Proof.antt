@@ -7,17 +7,17 @@ use mir.Syntax.{w32}
 use mir.Facts.{toZ-ofZ}
 use Rattle.codec.specs.Le.{load}
 use Rattle.protocol.specs.Event.{PUT}
-use Rattle.table.specs.Decode.{settingIn, decode}
-use Rattle.lawful.proofs.Facts.{formed}
 use Rattle.event.specs.Fields.{site, partition, session, from, count, uses}
 use Rattle.event.specs.Values.{keysFrom, eventFor}
 use Rattle.event.specs.Event.{eventOf}
 use Rattle.event.proofs.Values.{Lawful}
-use Rattle.decision.specs.Decided.{answered}
+use Rattle.table.specs.Decode.{settingIn, decode}
+use Rattle.lawful.proofs.Facts.{formed}
+use Rattle.decision.specs.Answered.{answered}
 use Rattle.steps.proofs.Fields.{code-in, event-by, session-in, site-in, part-in, count-in, from-in}
-use borrow.Author.Needs.{needs}
 use Rattle.steps.proofs.decide.Statement.{statement}
 use Rattle.steps.proofs.decide.Tie as tie
+use borrow.Author.Needs.{needs}
 
 -- ---- what is known where the fields are loaded
 

@@ -2,15 +2,15 @@
 use mathlib.Core.Path.{_≡_, sym, ap, _∙_}
 use mathlib.Core.Bool.{true}
 use borrow.Author.Tests.{not-true, not-false}
+use Rattle.event.specs.Event.{codeLawful}
 use Rattle.table.specs.Decode.{settingIn}
 use Rattle.lawful.proofs.Facts.{formed}
 use Rattle.lawful.proofs.Steps.{Sound}
-use Rattle.event.specs.Event.{codeLawful}
 use Rattle.steps.specs.Step.{gives, fieldsTest}
 use Rattle.steps.proofs.Stepped.{is-yes, is-no, test-by, code-unlawful, fields-unlawful, decided-fits, decided-waits, decided-gives}
-use borrow.Author.Needs.{needs}
 use Rattle.steps.proofs.step.Statement.{statement}
 use Rattle.steps.proofs.step.Tie as tie
+use borrow.Author.Needs.{needs}
 
 -- ---- what the tests say, at their places
 

@@ -4,9 +4,9 @@ use Prim.Native.Nat.{_-_}
 use native.Mathlib.Omega.{arith}
 use borrow.Author.Needs.{needs}
 use Rattle.codec.proofs.Part.{lent-back}
+use Rattle.record.specs.Meaning.{asMessage}
 use Rattle.table.specs.Put.{publishedOn, putChange}
 use Rattle.table.specs.Parts.{siteAt, onSite}
-use Rattle.table.specs.Values.{asMessage}
 use Rattle.table.proofs.Lent.{site-lent}
 use Rattle.table.proofs.publish.Statement.{statement}
 use Rattle.table.proofs.publish.Tie as tie

@@ -2,8 +2,8 @@
 use mathlib.Core.Path.{_∙_}
 use native.Mathlib.Omega.{arith}
 use borrow.Author.Needs.{needs}
+use Rattle.record.specs.Meaning.{asMessage}
 use Rattle.table.specs.Put.{putChange}
-use Rattle.table.specs.Values.{asMessage}
 use Rattle.table.proofs.Beside.{site-received}
 use Rattle.table.proofs.receive.Statement.{statement}
 use Rattle.table.proofs.receive.Tie as tie

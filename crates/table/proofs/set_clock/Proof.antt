@@ -1,7 +1,7 @@
 -- `table::set_clock` meets its contract, by what comes back of the site's part. Assumes nothing.
 use borrow.Author.Needs.{needs}
 use Rattle.codec.proofs.Part.{lent-back}
-use Rattle.table.specs.Node.{clockSet}
+use Rattle.parts.specs.Node.{clockSet}
 use Rattle.table.specs.Put.{putChange}
 use Rattle.table.specs.Parts.{siteAt, onSite, onNode}
 use Rattle.table.proofs.set_clock.Statement.{statement}

@@ -1,8 +1,8 @@
 -- `table::set_session` meets its contract, by what comes back of the session. Assumes nothing.
 use borrow.Author.Needs.{needs}
 use Rattle.codec.proofs.Part.{lent-back}
-use Rattle.table.specs.Values.{asSession}
-use Rattle.table.specs.Session.{putSession}
+use Rattle.parts.specs.Meaning.{asSession}
+use Rattle.parts.specs.Session.{putSession}
 use Rattle.table.specs.Put.{putChange}
 use Rattle.table.specs.Parts.{sessionAt, onSession}
 use Rattle.table.proofs.set_session.Statement.{statement}

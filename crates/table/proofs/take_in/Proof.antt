@@ -2,9 +2,9 @@
 use native.Mathlib.Omega.{arith}
 use borrow.Author.Needs.{needs}
 use Rattle.codec.proofs.Part.{lent-back}
+use Rattle.record.specs.Meaning.{asMessage}
+use Rattle.parts.specs.Node.{received}
 use Rattle.table.specs.Parts.{siteAt, onSite, onNode}
-use Rattle.table.specs.Values.{asMessage}
-use Rattle.table.specs.Node.{received}
 use Rattle.table.proofs.Lent.{site-lent}
 use Rattle.table.proofs.take_in.Statement.{statement}
 use Rattle.table.proofs.take_in.Tie as tie

@@ -1,9 +1,9 @@
 -- `archive::port::level_archive_setup` meets its contract, by what `setup` ensures. Assumes nothing.
 use mathlib.Core.Path.{ap, _∙_}
 use Rattle.archive.specs.Port.{shows, shown}
-use borrow.Author.Needs.{needs}
 use Rattle.archive.proofs.port.level_archive_setup.Statement.{statement}
 use Rattle.archive.proofs.port.level_archive_setup.Tie as tie
+use borrow.Author.Needs.{needs}
 
 setup-requires : tie.Need-setup-requires
 setup-requires c κs = search needs

@@ -1,9 +1,9 @@
 -- `archive::port::level_archive_step` meets its contract, by what `step` ensures. Assumes nothing.
 use mathlib.Core.Path.{ap, _∙_}
 use Rattle.archive.specs.Port.{shows, shown}
-use borrow.Author.Needs.{needs}
 use Rattle.archive.proofs.port.level_archive_step.Statement.{statement}
 use Rattle.archive.proofs.port.level_archive_step.Tie as tie
+use borrow.Author.Needs.{needs}
 
 step-requires : tie.Need-step-requires
 step-requires c κs = search needs

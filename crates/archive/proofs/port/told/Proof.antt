@@ -3,9 +3,9 @@ use mathlib.Core.Path.{_∙_}
 use mir.Syntax.{w32}
 use mir.Facts.{toZ-ofZ}
 use Rattle.archive.specs.Port.{valuesOf}
-use borrow.Author.Needs.{needs}
 use Rattle.archive.proofs.port.told.Statement.{statement}
 use Rattle.archive.proofs.port.told.Tie as tie
+use borrow.Author.Needs.{needs}
 
 number-of-requires : tie.Need-number-of-requires
 number-of-requires c κs = search needs

@@ -1,12 +1,12 @@
 -- `decision::lookup::heard` meets its contract, by what the lent node says. Assumes nothing.
 use mathlib.Core.Path.{sym, ap, _∙_}
 use Rattle.vector.specs.Entries.{entry, loadVec}
-use Rattle.table.specs.Node.{heardIn}
-use Rattle.table.proofs.Values.{entry-loadVec}
+use Rattle.vector.proofs.Short.{entry-loadVec}
+use Rattle.parts.specs.Node.{heardIn}
 use Rattle.decision.proofs.Nested.{node-in-table}
-use borrow.Author.Needs.{needs}
 use Rattle.decision.proofs.lookup.heard.Statement.{statement}
 use Rattle.decision.proofs.lookup.heard.Tie as tie
+use borrow.Author.Needs.{needs}
 
 mul-off : tie.Need-mul-off
 mul-off c = search needs

@@ -1,13 +1,13 @@
 -- `decision::lookup::newest` meets its contract, by what the lent node says. Assumes nothing.
 use Prim.Native.Nat.{ℕ, _≤_, _<_}
 use mathlib.Core.Path.{subst}
-use Rattle.table.specs.Letter.{recordAt}
-use Rattle.table.specs.Node.{slotAt, heldIn}
+use Rattle.record.specs.RecordBytes.{recordAt}
+use Rattle.parts.specs.Node.{slotAt, heldIn}
 use Rattle.decision.proofs.Formed.{node-held, node-source}
 use Rattle.decision.proofs.Nested.{node-in-table}
-use borrow.Author.Needs.{needs}
 use Rattle.decision.proofs.lookup.newest.Statement.{statement}
 use Rattle.decision.proofs.lookup.newest.Tie as tie
+use borrow.Author.Needs.{needs}
 
 mul-off : tie.Need-mul-off
 mul-off c = search needs

@@ -5,9 +5,9 @@ use native.Mathlib.Omega.{arith}
 use Rattle.protocol.specs.Record.{partOf}
 use Rattle.table.specs.Decode.{settingIn}
 use Rattle.decision.proofs.Formed.{parts-some, parts-at-most}
-use borrow.Author.Needs.{needs}
 use Rattle.decision.proofs.lookup.partition.Statement.{statement}
 use Rattle.decision.proofs.lookup.partition.Tie as tie
+use borrow.Author.Needs.{needs}
 
 load-u8-requires : tie.Need-load-u8-requires
 load-u8-requires c κs = search needs

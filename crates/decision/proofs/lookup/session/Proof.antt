@@ -2,14 +2,14 @@
 use Prim.Native.Nat.{_≤_}
 use mathlib.Core.Path.{sym, ap, subst, _∙_}
 use Rattle.codec.specs.Le.{load}
+use Rattle.parts.specs.Session.{sessionIn}
 use Rattle.table.specs.Parts.{sessionOf}
-use Rattle.table.specs.Session.{sessionIn}
 use Rattle.table.proofs.Lent.{session-lent}
 use Rattle.decision.proofs.Formed.{session-marks}
 use Rattle.decision.proofs.Told.{count-told, here-told}
-use borrow.Author.Needs.{needs}
 use Rattle.decision.proofs.lookup.session.Statement.{statement}
 use Rattle.decision.proofs.lookup.session.Tie as tie
+use borrow.Author.Needs.{needs}
 
 mul-off : tie.Need-mul-off
 mul-off c = search needs

@@ -4,14 +4,14 @@ use mathlib.Core.Bool.{true}
 use borrow.Author.Tests.{not-true, not-false}
 use Rattle.protocol.specs.Event.{BEGIN}
 use Rattle.protocol.specs.Serve.{begun}
-use Rattle.table.specs.Values.{asSession}
+use Rattle.parts.specs.Meaning.{asSession}
 use Rattle.table.specs.Decode.{decode}
-use Rattle.decision.specs.Marks.{keysOn}
-use Rattle.decision.specs.Decided.{answered}
+use Rattle.outcome.specs.Marks.{keysOn}
+use Rattle.decision.specs.Answered.{answered}
 use Rattle.decision.proofs.Ladders.{beginOf, begin-says}
-use borrow.Author.Needs.{needs}
 use Rattle.decision.proofs.pages.begin.Statement.{statement}
 use Rattle.decision.proofs.pages.begin.Tie as tie
+use borrow.Author.Needs.{needs}
 
 -- ---- what is known at the places of the code
 

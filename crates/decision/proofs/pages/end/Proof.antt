@@ -7,13 +7,13 @@ use Rattle.vector.specs.Entries.{entry}
 use Rattle.vector.proofs.Vec.{raised-plain}
 use Rattle.protocol.specs.State.{Session, noPage, opened}
 use Rattle.protocol.specs.Event.{END}
-use Rattle.table.specs.Values.{asSession}
+use Rattle.parts.specs.Meaning.{asSession}
 use Rattle.table.specs.Decode.{decode}
-use Rattle.decision.specs.Decided.{answered}
+use Rattle.decision.specs.Answered.{answered}
 use Rattle.decision.proofs.Ladders.{endOf, end-says}
-use borrow.Author.Needs.{needs}
 use Rattle.decision.proofs.pages.end.Statement.{statement}
 use Rattle.decision.proofs.pages.end.Tie as tie
+use borrow.Author.Needs.{needs}
 
 -- ---- what is known at the places of the code
 

@@ -7,15 +7,15 @@ use Rattle.protocol.specs.Record.{newest, fitsPage}
 use Rattle.protocol.specs.Event.{READ}
 use Rattle.protocol.specs.Needs.{readReady}
 use Rattle.protocol.specs.Serve.{readOn}
-use Rattle.table.specs.Values.{asSession}
+use Rattle.parts.specs.Meaning.{asSession}
+use Rattle.search.specs.Found.{foundOf}
+use Rattle.search.proofs.Fit.{fits-page}
 use Rattle.table.specs.Decode.{settingIn, decode}
-use Rattle.decision.specs.Found.{foundOf}
-use Rattle.decision.specs.Decided.{answered}
-use Rattle.decision.proofs.Places.{fits-page}
+use Rattle.decision.specs.Answered.{answered}
 use Rattle.decision.proofs.Ladders.{heardBy, storedBy, readOf, read-says}
-use borrow.Author.Needs.{needs}
 use Rattle.decision.proofs.pages.read.Statement.{statement}
 use Rattle.decision.proofs.pages.read.Tie as tie
+use borrow.Author.Needs.{needs}
 
 -- ---- what is known at the places of the code
 

@@ -6,15 +6,15 @@ use Rattle.vector.specs.Entries.{entry}
 use Rattle.protocol.specs.Record.{newest, ofKey}
 use Rattle.protocol.specs.Event.{GET}
 use Rattle.protocol.specs.Needs.{getReady}
-use Rattle.table.specs.Values.{asSession}
+use Rattle.parts.specs.Meaning.{asSession}
+use Rattle.search.specs.Found.{foundOf}
+use Rattle.search.proofs.Fit.{fits-get}
 use Rattle.table.specs.Decode.{settingIn, decode}
-use Rattle.decision.specs.Found.{foundOf}
-use Rattle.decision.specs.Decided.{answered}
-use Rattle.decision.proofs.Places.{fits-get}
+use Rattle.decision.specs.Answered.{answered}
 use Rattle.decision.proofs.Ladders.{heardBy, storedBy, getOf, get-says}
-use borrow.Author.Needs.{needs}
 use Rattle.decision.proofs.sessions.get.Statement.{statement}
 use Rattle.decision.proofs.sessions.get.Tie as tie
+use borrow.Author.Needs.{needs}
 
 -- ---- what is known at the places of the code
 

@@ -2,13 +2,13 @@
 use mathlib.Core.Path.{_≡_, sym, ap, _∙_}
 use Rattle.protocol.specs.Event.{OPEN}
 use Rattle.protocol.specs.declared.Answer.{Answer}
-use Rattle.table.specs.Values.{asSession}
+use Rattle.parts.specs.Meaning.{asSession}
 use Rattle.table.specs.Decode.{decode}
-use Rattle.decision.specs.Decided.{answered}
+use Rattle.decision.specs.Answered.{answered}
 use Rattle.decision.proofs.Ladders.{keeps, openOf, open-says}
-use borrow.Author.Needs.{needs}
 use Rattle.decision.proofs.sessions.open_session.Statement.{statement}
 use Rattle.decision.proofs.sessions.open_session.Tie as tie
+use borrow.Author.Needs.{needs}
 
 -- what is answered, by the session that was loaded
 says : (k : tie.After-session) → let a = k .before .before .args in

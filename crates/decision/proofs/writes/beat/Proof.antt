@@ -5,11 +5,11 @@ use native.Mathlib.Omega.{arith}
 use borrow.Author.Needs.{needs}
 use borrow.Author.Tests.{lt-ltb, le-ltb, not-true, not-false}
 use lib.Dec.{ltb}
+use Rattle.parts.specs.Node.{clockIn, heardIn}
 use Rattle.table.specs.Parts.{siteOf, nodeOf}
-use Rattle.table.specs.Node.{clockIn, heardIn}
 use Rattle.table.specs.Decode.{settingIn}
 use Rattle.lawful.proofs.Facts.{Formed, formed}
-use Rattle.decision.specs.Decided.{changesOf, outcomeOf}
+use Rattle.outcome.specs.Decided.{changesOf, outcomeOf}
 use Rattle.decision.proofs.Room.{roomy}
 use Rattle.decision.proofs.Times.{beat-answered}
 use Rattle.decision.proofs.writes.beat.Statement.{statement}

@@ -4,9 +4,9 @@ use lib.ListN.{length}
 use Rattle.table.specs.Parts.{channelOf}
 use Rattle.table.proofs.Lent.{channel-lent}
 use Rattle.table.proofs.Parts.{length-channel}
-use borrow.Author.Needs.{needs}
 use Rattle.decision.proofs.writes.channel.Statement.{statement}
 use Rattle.decision.proofs.writes.channel.Tie as tie
+use borrow.Author.Needs.{needs}
 
 site-requires : tie.Need-site-requires
 site-requires c κs = search needs

@@ -3,11 +3,11 @@ use mathlib.Core.Path.{_≡_, sym, ap, _∙_}
 use native.Mathlib.Omega.{arith}
 use borrow.Author.Needs.{needs}
 use borrow.Author.Tests.{le-leb, lt-leb}
+use Rattle.parts.specs.Node.{clockIn}
 use Rattle.table.specs.Parts.{siteOf, nodeOf}
-use Rattle.table.specs.Node.{clockIn}
 use Rattle.table.specs.Decode.{settingIn}
 use Rattle.lawful.proofs.Facts.{formed}
-use Rattle.decision.specs.Decided.{changesOf, outcomeOf}
+use Rattle.outcome.specs.Decided.{changesOf, outcomeOf}
 use Rattle.decision.proofs.Times.{clock-answered}
 use Rattle.decision.proofs.writes.clock.Statement.{statement}
 use Rattle.decision.proofs.writes.clock.Tie as tie

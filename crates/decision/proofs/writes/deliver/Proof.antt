@@ -9,12 +9,12 @@ use Rattle.protocol.specs.Event.{DELIVER}
 use Rattle.protocol.specs.Change.{Receive}
 use Rattle.protocol.specs.Serve.{_and_}
 use Rattle.protocol.specs.declared.Answer.the-variants.{Done}
+use Rattle.record.specs.Meaning.{asMessage}
+use Rattle.parts.specs.Channel.{waitIn}
 use Rattle.table.specs.Parts.{placeOf, siteOf, channelOf}
-use Rattle.table.specs.Channel.{waitIn}
 use Rattle.table.specs.Decode.{settingIn, decode}
-use Rattle.table.specs.Values.{asMessage}
 use Rattle.lawful.proofs.Facts.{Formed, formed}
-use Rattle.decision.specs.Decided.{answered}
+use Rattle.decision.specs.Answered.{answered}
 use Rattle.decision.proofs.Ladders.{no as refuse}
 use Rattle.decision.proofs.Deliver.{firstIn, deliver-none, deliver-first}
 use Rattle.decision.proofs.writes.deliver.Statement.{statement}

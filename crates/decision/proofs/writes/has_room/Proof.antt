@@ -4,13 +4,13 @@ use Prim.Native.Nat.{_-_, _≤_}
 use native.Mathlib.Omega.{arith}
 use lib.Dec.{ltb}
 use Rattle.codec.specs.Le.{load}
-use Rattle.vector.specs.Vec.{allBelow}
+use Rattle.codec.specs.Below.{allBelow}
 use Rattle.vector.proofs.Entries.{allBelow-none, allBelow-step}
+use Rattle.parts.specs.Channel.{waitIn}
 use Rattle.table.specs.Parts.{siteOf, channelOf}
-use Rattle.table.specs.Channel.{waitIn}
-use borrow.Author.Needs.{needs}
 use Rattle.decision.proofs.writes.has_room.Statement.{statement}
 use Rattle.decision.proofs.writes.has_room.Tie as tie
+use borrow.Author.Needs.{needs}
 
 abbrev Inv-loop : tie.InvT-loop
 Inv-loop t m p n all₀ d₀ all d = (d ≤ n) × (n ≡ load 1 t 0 - 1) × (all ≡ allBelow d (λ k. ltb (waitIn (channelOf (siteOf t m) p k)) 8))

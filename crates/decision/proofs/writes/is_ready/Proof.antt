@@ -2,12 +2,12 @@
 use Rattle.vector.specs.Vec.{largest}
 use Rattle.vector.specs.Entries.{entry}
 use Rattle.protocol.specs.Needs.{putReady}
+use Rattle.parts.specs.Node.{clockIn, heardIn}
 use Rattle.table.specs.Parts.{siteOf, nodeOf}
-use Rattle.table.specs.Node.{clockIn, heardIn}
 use Rattle.decision.proofs.Put.{after-both}
-use borrow.Author.Needs.{needs}
 use Rattle.decision.proofs.writes.is_ready.Statement.{statement}
 use Rattle.decision.proofs.writes.is_ready.Tie as tie
+use borrow.Author.Needs.{needs}
 
 node-requires : tie.Need-node-requires
 node-requires c κs = search needs

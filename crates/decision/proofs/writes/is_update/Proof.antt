@@ -2,10 +2,10 @@
 use mathlib.Core.Path.{sym, ap}
 use mathlib.Core.List.{[], _∷_}
 use Rattle.protocol.specs.Needs.{frontUpdates}
-use Rattle.table.specs.Values.{messageOf, asMessage}
-use borrow.Author.Needs.{needs}
+use Rattle.record.specs.Meaning.{messageOf, asMessage}
 use Rattle.decision.proofs.writes.is_update.Statement.{statement}
 use Rattle.decision.proofs.writes.is_update.Tie as tie
+use borrow.Author.Needs.{needs}
 
 enum-told : tie.Need-enum-told
 enum-told c = search needs

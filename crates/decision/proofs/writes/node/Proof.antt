@@ -4,9 +4,9 @@ use lib.ListN.{length}
 use Rattle.table.specs.Parts.{nodeOf}
 use Rattle.table.proofs.Lent.{node-lent}
 use Rattle.table.proofs.Parts.{length-node}
-use borrow.Author.Needs.{needs}
 use Rattle.decision.proofs.writes.node.Statement.{statement}
 use Rattle.decision.proofs.writes.node.Tie as tie
+use borrow.Author.Needs.{needs}
 
 site-requires : tie.Need-site-requires
 site-requires c κs = search needs

@@ -1,9 +1,9 @@
 -- `decision::writes::own` meets its contract: the entry of the vector that was looked up. Assumes nothing.
 use mathlib.Core.Path.{ap}
 use Rattle.vector.specs.Entries.{entry}
-use borrow.Author.Needs.{needs}
 use Rattle.decision.proofs.writes.own.Statement.{statement}
 use Rattle.decision.proofs.writes.own.Tie as tie
+use borrow.Author.Needs.{needs}
 
 heard-requires : tie.Need-heard-requires
 heard-requires c κs = search needs

@@ -11,12 +11,12 @@ use lib.Dec.{ltb}
 use Rattle.codec.specs.Le.{load}
 use Rattle.protocol.specs.Record.{partOf}
 use Rattle.protocol.specs.Event.{PUT}
+use Rattle.parts.specs.Node.{clockIn, heldIn}
+use Rattle.parts.specs.Meaning.{asSession}
 use Rattle.table.specs.Parts.{siteOf, nodeOf}
-use Rattle.table.specs.Node.{clockIn, heldIn}
 use Rattle.table.specs.Decode.{settingIn, decode}
-use Rattle.table.specs.Values.{asSession}
 use Rattle.lawful.proofs.Facts.{formed}
-use Rattle.decision.specs.Decided.{answered}
+use Rattle.decision.specs.Answered.{answered}
 use Rattle.decision.proofs.Room.{roomy}
 use Rattle.decision.proofs.Ladders.{no as refuse}
 use Rattle.decision.proofs.Put.{site-there, stampedBy, atNode, put-closed, put-paged, put-there}

@@ -3,9 +3,9 @@ use mathlib.Core.Path.{sym, ap, _∙_}
 use lib.ListN.{length}
 use Rattle.table.proofs.Lent.{site-lent}
 use Rattle.table.proofs.Parts.{length-site}
-use borrow.Author.Needs.{needs}
 use Rattle.decision.proofs.writes.site.Statement.{statement}
 use Rattle.decision.proofs.writes.site.Tie as tie
+use borrow.Author.Needs.{needs}
 
 mul-off : tie.Need-mul-off
 mul-off c = search needs

@@ -7,11 +7,12 @@ use mir.Syntax.{w32}
 use Rattle.vector.specs.Vec.{width}
 use Rattle.vector.proofs.Short.{entry-with}
 use Rattle.protocol.specs.Serve.{written}
-use Rattle.table.specs.Values.{messageOf, asSession}
-use Rattle.decision.specs.Decided.{changesOf, outcomeOf}
-use borrow.Author.Needs.{needs}
+use Rattle.record.specs.Meaning.{messageOf}
+use Rattle.parts.specs.Meaning.{asSession}
+use Rattle.outcome.specs.Decided.{changesOf, outcomeOf}
 use Rattle.decision.proofs.writes.stored.Statement.{statement}
 use Rattle.decision.proofs.writes.stored.Tie as tie
+use borrow.Author.Needs.{needs}
 
 cast-with-entry : tie.Need-cast-with-entry
 cast-with-entry c = search needs

@@ -1,10 +1,10 @@
 -- `decision::writes::taken` meets its contract: the message and its vector are the letter's. Assumes nothing.
 use mathlib.Core.Path.{refl}
-use Rattle.table.specs.Values.{asMessage}
-use Rattle.decision.specs.Decided.{changesOf, outcomeOf}
-use borrow.Author.Needs.{needs}
+use Rattle.record.specs.Meaning.{asMessage}
+use Rattle.outcome.specs.Decided.{changesOf, outcomeOf}
 use Rattle.decision.proofs.writes.taken.Statement.{statement}
 use Rattle.decision.proofs.writes.taken.Tie as tie
+use borrow.Author.Needs.{needs}
 
 closed-requires : tie.Need-closed-requires
 closed-requires c κs = search needs

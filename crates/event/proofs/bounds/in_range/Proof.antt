@@ -3,9 +3,9 @@ use mir.Syntax.{w32}
 use mir.Val.{SFits}
 use mir.Facts.{toZ-ofZ}
 use Rattle.event.specs.Ranges.{inRange}
-use borrow.Author.Needs.{needs}
 use Rattle.event.proofs.bounds.in_range.Statement.{statement}
 use Rattle.event.proofs.bounds.in_range.Tie as tie
+use borrow.Author.Needs.{needs}
 
 level-lawful-requires : tie.Need-level-lawful-requires
 level-lawful-requires c κs = search needs

@@ -4,12 +4,12 @@ use Prim.Native.Nat.{_-_, _≤_, min}
 use native.Mathlib.Omega.{arith}
 use lib.Dec.{ltb}
 use lib.ListN.{getD}
-use Rattle.vector.specs.Vec.{allBelow}
+use Rattle.codec.specs.Below.{allBelow}
 use Rattle.vector.proofs.Entries.{allBelow-none, allBelow-step}
 use Rattle.event.specs.Ranges.{keysBelow}
-use borrow.Author.Needs.{needs}
 use Rattle.event.proofs.bounds.keys_lawful.Statement.{statement}
 use Rattle.event.proofs.bounds.keys_lawful.Tie as tie
+use borrow.Author.Needs.{needs}
 
 abbrev Inv-loop : tie.InvT-loop
 Inv-loop count keys n all₀ i₀ all i = (i ≤ n) × (n ≤ 8) × (n ≡ min 8 count) × (all ≡ allBelow i (λ k. ltb (getD keys k 0) 64))

@@ -5,13 +5,13 @@ use Prim.Native.Nat.{_-_, _+_, _≤_}
 use native.Mathlib.Omega.{arith}
 use lib.Dec.{ltb, eqb}
 use Rattle.codec.specs.Le.{load}
-use Rattle.vector.specs.Vec.{allBelow}
+use Rattle.codec.specs.Below.{allBelow}
 use Rattle.vector.proofs.Entries.{allBelow-none, allBelow-step}
 use Rattle.event.specs.Fields.{restZero}
 use Rattle.event.proofs.Keys.{rest-none}
-use borrow.Author.Needs.{needs}
 use Rattle.event.proofs.flags.rest_zero.Statement.{statement}
 use Rattle.event.proofs.flags.rest_zero.Tie as tie
+use borrow.Author.Needs.{needs}
 
 abbrev Inv-loop : tie.InvT-loop
 Inv-loop e count all₀ i₀ all i = (i ≤ 8) × (count ≡ load 1 e 7) × (all ≡ allBelow i (λ k. ltb k count || eqb (load 1 e (20 + k)) 0))

@@ -1,11 +1,11 @@
 -- `event::flags::used` meets its contract: the table is its rule, tabulated, which antt computes. Assumes nothing.
-use Rattle.table.specs.Tabulate.{tabulate}
-use Rattle.table.proofs.Tabulate.{tab-at}
+use Rattle.codec.specs.Tabulate.{tabulate}
+use Rattle.codec.proofs.Tabulate.{tab-at}
 use Rattle.event.specs.Fields.{uses}
 use Rattle.event.specs.Ranges.{usedBy}
-use borrow.Author.Needs.{needs}
 use Rattle.event.proofs.flags.used.Statement.{statement}
 use Rattle.event.proofs.flags.used.Tie as tie
+use borrow.Author.Needs.{needs}
 
 mul-result : tie.Need-mul-result
 mul-result c = search needs

@@ -1,10 +1,10 @@
 -- `event::flags::zero` meets its contract: a test for each field, in the order of the fields. Assumes nothing.
-use Rattle.table.specs.Tabulate.{tabulate}
+use Rattle.codec.specs.Tabulate.{tabulate}
 use Rattle.event.specs.Fields.{zeroAt}
 use Rattle.event.specs.Ranges.{zeroIn}
-use borrow.Author.Needs.{needs}
 use Rattle.event.proofs.flags.zero.Statement.{statement}
 use Rattle.event.proofs.flags.zero.Tie as tie
+use borrow.Author.Needs.{needs}
 
 load-u8-requires : tie.Need-load-u8-requires
 load-u8-requires c κs = search needs

@@ -6,12 +6,12 @@ use native.Mathlib.Decide.{decLt}
 use native.Mathlib.Omega.{arith}
 use borrow.Author.Tests.{lt-ltb, le-ltb, lt-leb, le-leb}
 use lib.Dec.{ltb, leb}
-use Rattle.vector.specs.Vec.{allBelow}
-use Rattle.table.specs.Channel.{frontIn}
+use Rattle.codec.specs.Below.{allBelow}
+use Rattle.parts.specs.Channel.{frontIn}
 use Rattle.lawful.specs.WellFormed.{channelFormed}
-use borrow.Author.Needs.{needs}
 use Rattle.lawful.proofs.channels.channel_formed.Statement.{statement}
 use Rattle.lawful.proofs.channels.channel_formed.Tie as tie
+use borrow.Author.Needs.{needs}
 
 -- the place d among the other sites is there
 place-there : (d sites : ℕ) → ltb (d + 1) sites ≡ ltb d (sites - 1)

@@ -3,14 +3,14 @@ use mathlib.Core.Path.{_≡_, sym}
 use mathlib.Core.Bool.{true}
 use Prim.Native.Nat.{_-_, _≤_}
 use native.Mathlib.Omega.{arith}
-use Rattle.vector.specs.Vec.{allBelow}
+use Rattle.codec.specs.Below.{allBelow}
+use Rattle.codec.proofs.Tests.{fails, passes}
 use Rattle.vector.proofs.Entries.{allBelow-none, allBelow-more, allBelow-fails}
-use Rattle.table.specs.Channel.{ringAt}
-use Rattle.lawful.specs.WellFormed.{messageFormed}
-use Rattle.lawful.proofs.Tested.{fails, passes}
-use borrow.Author.Needs.{needs}
+use Rattle.record.specs.RecordFormed.{messageFormed}
+use Rattle.parts.specs.Channel.{ringAt}
 use Rattle.lawful.proofs.channels.messages_formed.Statement.{statement}
 use Rattle.lawful.proofs.channels.messages_formed.Tie as tie
+use borrow.Author.Needs.{needs}
 
 abbrev Inv-loop : tie.InvT-loop
 Inv-loop b sites parts i p front wait k₀ k = (k ≤ wait) × (allBelow k (λ j. messageFormed (record { sites = sites; parts = parts }) i p b (ringAt front j)) ≡ true)

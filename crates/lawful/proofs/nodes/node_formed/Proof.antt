@@ -1,12 +1,12 @@
 -- `lawful::nodes::node_formed` meets its contract, whichever test fails first. Assumes nothing.
 use mathlib.Core.Bool.{and-false}
 use borrow.Author.Tests.{lt-leb, le-leb}
-use Rattle.table.specs.Node.{heardIn}
+use Rattle.codec.proofs.Tests.{fails, passes}
+use Rattle.parts.specs.Node.{heardIn}
 use Rattle.lawful.specs.WellFormed.{nodeFormed}
-use Rattle.lawful.proofs.Tested.{fails, passes}
-use borrow.Author.Needs.{needs}
 use Rattle.lawful.proofs.nodes.node_formed.Statement.{statement}
 use Rattle.lawful.proofs.nodes.node_formed.Tie as tie
+use borrow.Author.Needs.{needs}
 
 held-requires : tie.Need-held-requires
 held-requires c κs = search needs

@@ -3,14 +3,14 @@ use mathlib.Core.Path.{_≡_, sym}
 use mathlib.Core.Bool.{true}
 use Prim.Native.Nat.{_-_, _≤_}
 use native.Mathlib.Omega.{arith}
-use Rattle.vector.specs.Vec.{allBelow}
+use Rattle.codec.specs.Below.{allBelow}
+use Rattle.codec.proofs.Tests.{fails, passes}
 use Rattle.vector.proofs.Entries.{allBelow-none, allBelow-more, allBelow-fails}
-use Rattle.table.specs.Node.{slotAt}
-use Rattle.lawful.specs.WellFormed.{recordFormed}
-use Rattle.lawful.proofs.Tested.{fails, passes}
-use borrow.Author.Needs.{needs}
+use Rattle.record.specs.RecordFormed.{recordFormed}
+use Rattle.parts.specs.Node.{slotAt}
 use Rattle.lawful.proofs.nodes.records_formed.Statement.{statement}
 use Rattle.lawful.proofs.nodes.records_formed.Tie as tie
+use borrow.Author.Needs.{needs}
 
 abbrev Inv-loop : tie.InvT-loop
 Inv-loop n sites parts p held k₀ k = (k ≤ held) × (allBelow k (λ j. recordFormed (record { sites = sites; parts = parts }) p n (slotAt j)) ≡ true)

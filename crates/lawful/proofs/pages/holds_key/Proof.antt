@@ -6,12 +6,12 @@ use native.Mathlib.Omega.{arith}
 use borrow.Author.Tests.{not-true, not-false, eq-eqb, ne-eqb}
 use lib.Dec.{eqb}
 use Rattle.codec.specs.Le.{load}
-use Rattle.vector.specs.Vec.{allBelow}
+use Rattle.codec.specs.Below.{allBelow}
 use Rattle.vector.proofs.Entries.{allBelow-none, allBelow-more, allBelow-fails}
 use Rattle.lawful.proofs.KeyTests.{holdsKey-all}
-use borrow.Author.Needs.{needs}
 use Rattle.lawful.proofs.pages.holds_key.Statement.{statement}
 use Rattle.lawful.proofs.pages.holds_key.Tie as tie
+use borrow.Author.Needs.{needs}
 
 abbrev Inv-loop : tie.InvT-loop
 Inv-loop b at n k i₀ i = (i ≤ n) × (allBelow i (λ j. not (eqb (load 1 b (at + j)) k)) ≡ true)

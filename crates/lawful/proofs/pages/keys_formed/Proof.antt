@@ -6,14 +6,14 @@ use native.Mathlib.Omega.{arith}
 use borrow.Author.Tests.{lt-ltb, le-ltb}
 use lib.Dec.{ltb}
 use Rattle.codec.specs.Le.{load}
-use Rattle.vector.specs.Vec.{allBelow}
+use Rattle.codec.specs.Below.{allBelow}
+use Rattle.codec.specs.Tabulate.{tabulate}
 use Rattle.vector.proofs.Entries.{allBelow-none, allBelow-more, allBelow-fails}
 use Rattle.protocol.specs.Needs.{holdsKey}
-use Rattle.table.specs.Tabulate.{tabulate}
 use Rattle.lawful.proofs.KeyTests.{keys-all}
-use borrow.Author.Needs.{needs}
 use Rattle.lawful.proofs.pages.keys_formed.Statement.{statement}
 use Rattle.lawful.proofs.pages.keys_formed.Tie as tie
+use borrow.Author.Needs.{needs}
 
 abbrev Inv-loop : tie.InvT-loop
 Inv-loop b at n i₀ i = (i ≤ n) × (allBelow i (λ k. ltb (load 1 b (at + k)) 64 && not (holdsKey (load 1 b (at + k)) (tabulate k (λ j. load 1 b (at + j))))) ≡ true)

@@ -6,12 +6,12 @@ use native.Mathlib.Omega.{arith}
 use borrow.Author.Tests.{lt-ltb, le-ltb}
 use lib.Dec.{ltb}
 use Rattle.codec.specs.Le.{load}
-use Rattle.vector.specs.Vec.{allBelow}
+use Rattle.codec.specs.Below.{allBelow}
 use Rattle.vector.proofs.Entries.{allBelow-none, allBelow-more, allBelow-fails}
 use Rattle.lawful.specs.WellFormed.{flagsAt}
-use borrow.Author.Needs.{needs}
 use Rattle.lawful.proofs.sessions.flags_formed.Statement.{statement}
 use Rattle.lawful.proofs.sessions.flags_formed.Tie as tie
+use borrow.Author.Needs.{needs}
 
 abbrev Inv-loop : tie.InvT-loop
 Inv-loop b at n i₀ i = (i ≤ n) × (allBelow i (λ k. ltb (load 1 b (at + k)) 2) ≡ true)

@@ -1,11 +1,11 @@
 -- `lawful::sessions::page_lawful` meets its contract, whichever test fails first. Assumes nothing.
 use mathlib.Core.Bool.{and-false}
 use borrow.Author.Tests.{lt-leb, le-leb}
-use Rattle.lawful.proofs.Tested.{fails, passes}
+use Rattle.codec.proofs.Tests.{fails, passes}
 use Rattle.lawful.proofs.KeyTests.{pageLawful-in}
-use borrow.Author.Needs.{needs}
 use Rattle.lawful.proofs.sessions.page_lawful.Statement.{statement}
 use Rattle.lawful.proofs.sessions.page_lawful.Tie as tie
+use borrow.Author.Needs.{needs}
 
 load-u8-requires : tie.Need-load-u8-requires
 load-u8-requires c κs = search needs

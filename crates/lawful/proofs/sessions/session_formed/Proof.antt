@@ -1,13 +1,13 @@
 -- `lawful::sessions::session_formed` meets its contract, whichever test fails first. Assumes nothing.
 use mathlib.Core.Bool.{and-false}
 use borrow.Author.Tests.{lt-ltb, le-ltb}
-use Rattle.table.specs.Session.{sessionIn}
+use Rattle.codec.proofs.Tests.{fails, passes}
+use Rattle.parts.specs.Session.{sessionIn}
 use Rattle.lawful.specs.Values.{sessionLawful}
 use Rattle.lawful.specs.WellFormed.{sessionFormed}
-use Rattle.lawful.proofs.Tested.{fails, passes}
-use borrow.Author.Needs.{needs}
 use Rattle.lawful.proofs.sessions.session_formed.Statement.{statement}
 use Rattle.lawful.proofs.sessions.session_formed.Tie as tie
+use borrow.Author.Needs.{needs}
 
 load-u8-requires : tie.Need-load-u8-requires
 load-u8-requires c κs = search needs

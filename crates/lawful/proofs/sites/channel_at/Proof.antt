@@ -1,8 +1,8 @@
 -- `lawful::sites::channel_at` meets its contract: what is lent is the channel. Assumes nothing.
 use Rattle.table.proofs.Lent.{channel-lent}
-use borrow.Author.Needs.{needs}
 use Rattle.lawful.proofs.sites.channel_at.Statement.{statement}
 use Rattle.lawful.proofs.sites.channel_at.Tie as tie
+use borrow.Author.Needs.{needs}
 
 mul-off : tie.Need-mul-off
 mul-off c = search needs

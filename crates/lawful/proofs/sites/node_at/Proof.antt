@@ -1,8 +1,8 @@
 -- `lawful::sites::node_at` meets its contract: what is lent is the node. Assumes nothing.
 use Rattle.table.proofs.Lent.{node-lent}
-use borrow.Author.Needs.{needs}
 use Rattle.lawful.proofs.sites.node_at.Statement.{statement}
 use Rattle.lawful.proofs.sites.node_at.Tie as tie
+use borrow.Author.Needs.{needs}
 
 mul-off : tie.Need-mul-off
 mul-off c = search needs

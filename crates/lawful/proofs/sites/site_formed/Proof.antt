@@ -3,15 +3,15 @@ use mathlib.Core.Path.{_≡_, sym}
 use mathlib.Core.Bool.{true, _&&_, and-false}
 use Prim.Native.Nat.{_-_, _≤_}
 use native.Mathlib.Omega.{arith}
-use Rattle.vector.specs.Vec.{allBelow}
+use Rattle.codec.specs.Below.{allBelow}
+use Rattle.codec.proofs.Tests.{fails, passes}
 use Rattle.vector.proofs.Entries.{allBelow-none, allBelow-more, allBelow-fails}
 use Rattle.protocol.specs.Record.{Setting}
 use Rattle.table.specs.Parts.{nodeOf, channelOf}
 use Rattle.lawful.specs.WellFormed.{nodeFormed, channelFormed, siteFormed}
-use Rattle.lawful.proofs.Tested.{fails, passes}
-use borrow.Author.Needs.{needs}
 use Rattle.lawful.proofs.sites.site_formed.Statement.{statement}
 use Rattle.lawful.proofs.sites.site_formed.Tie as tie
+use borrow.Author.Needs.{needs}
 
 abbrev Inv-loop : tie.InvT-loop
 Inv-loop site sites parts m p₀ p =

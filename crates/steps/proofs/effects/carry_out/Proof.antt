@@ -2,11 +2,11 @@
 use mathlib.Core.Path.{_≡_, sym, _∙_}
 use native.Mathlib.Omega.{arith}
 use borrow.Author.Needs.{needs}
+use Rattle.record.specs.Meaning.{messageOf, asMessage}
 use Rattle.table.specs.Put.{putChanges}
 use Rattle.table.specs.Fits.{FitsAll}
-use Rattle.table.specs.Values.{messageOf, asMessage}
-use Rattle.decision.specs.Decided.{changesOf}
-use Rattle.decision.specs.declared.Effect.{Effect}
+use Rattle.outcome.specs.Decided.{changesOf}
+use Rattle.outcome.specs.declared.Effect.{Effect}
 use Rattle.steps.specs.Waits.{Waits}
 use Rattle.steps.proofs.Carried.{marks-few, changesIf, told, told-same}
 use Rattle.steps.proofs.effects.carry_out.Statement.{statement}

@@ -3,9 +3,9 @@ use mathlib.Core.Path.{_∙_}
 use mir.Syntax.{w32}
 use mir.Facts.{toZ-ofZ}
 use Rattle.steps.specs.Run.{putAnswer}
-use borrow.Author.Needs.{needs}
 use Rattle.steps.proofs.pieces.store_answer.Statement.{statement}
 use Rattle.steps.proofs.pieces.store_answer.Tie as tie
+use borrow.Author.Needs.{needs}
 
 number-of-requires : tie.Need-number-of-requires
 number-of-requires c κs = search needs

@@ -2,9 +2,9 @@
 use mathlib.Core.Path.{sym, ap, _∙_}
 use Rattle.steps.specs.Step.{gives}
 use Rattle.steps.proofs.Kept.{piece-whole, piece-short}
-use borrow.Author.Needs.{needs}
 use Rattle.steps.proofs.runs.piece.Statement.{statement}
 use Rattle.steps.proofs.runs.piece.Tie as tie
+use borrow.Author.Needs.{needs}
 
 step-requires : tie.Need-step-requires
 step-requires c κs = search needs

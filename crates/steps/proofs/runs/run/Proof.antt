@@ -6,9 +6,9 @@ use lib.ListN.{length}
 use Rattle.lawful.proofs.Steps.{Sound}
 use Rattle.steps.specs.Run.{ran, runBy, pieceCall}
 use Rattle.steps.proofs.Kept.{run-none, run-step, turned-sound}
-use borrow.Author.Needs.{needs}
 use Rattle.steps.proofs.runs.run.Statement.{statement}
 use Rattle.steps.proofs.runs.run.Tie as tie
+use borrow.Author.Needs.{needs}
 
 abbrev Inv-loop : tie.InvT-loop
 Inv-loop t₀ es b₀ n i₀ t b i = (i ≤ n) × Sound t × (length b ≡ length b₀) × (ran t b ≡ runBy pieceCall i t₀ es b₀)

@@ -1,8 +1,8 @@
 -- `steps::runs::turn` meets its contract: the piece that the reader gives, and where its answer goes. Assumes nothing.
 use Rattle.steps.proofs.Kept.{turned-by}
-use borrow.Author.Needs.{needs}
 use Rattle.steps.proofs.runs.turn.Statement.{statement}
 use Rattle.steps.proofs.runs.turn.Tie as tie
+use borrow.Author.Needs.{needs}
 
 event-of-requires : tie.Need-event-of-requires
 event-of-requires c κs = search needs

@@ -6,9 +6,9 @@ use mathlib.Core.List.{List}
 use lib.ListN.{length}
 use Rattle.steps.specs.Run.{ran, runBy, turnedAway}
 use Rattle.steps.proofs.Kept.{run-none, run-step}
-use borrow.Author.Needs.{needs}
 use Rattle.steps.proofs.runs.turn_all_away.Statement.{statement}
 use Rattle.steps.proofs.runs.turn_all_away.Tie as tie
+use borrow.Author.Needs.{needs}
 
 abbrev Inv-loop : tie.InvT-loop
 Inv-loop es b₀ n number i₀ b i = (i ≤ n) × (length b ≡ length b₀) × ((t : List ℕ) → ran t b ≡ runBy (turnedAway number) i t es b₀)

@@ -2,9 +2,9 @@
 use mathlib.Core.Path.{ap, _∙_}
 use Rattle.steps.specs.Step.{refusedWith}
 use Rattle.steps.proofs.Kept.{away-by}
-use borrow.Author.Needs.{needs}
 use Rattle.steps.proofs.runs.turn_away.Statement.{statement}
 use Rattle.steps.proofs.runs.turn_away.Tie as tie
+use borrow.Author.Needs.{needs}
 
 event-of-requires : tie.Need-event-of-requires
 event-of-requires c κs = search needs

@@ -2,7 +2,7 @@
 use native.Mathlib.Omega.{arith}
 use borrow.Author.Needs.{needs}
 use Rattle.codec.proofs.Part.{lent-back}
-use Rattle.table.specs.Channel.{popped}
+use Rattle.parts.specs.Channel.{popped}
 use Rattle.table.specs.Parts.{channelAt, onChannel}
 use Rattle.table.proofs.Lent.{channel-lent}
 use Rattle.table.proofs.sites.pop.Statement.{statement}

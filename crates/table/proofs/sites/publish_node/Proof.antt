@@ -2,8 +2,8 @@
 use native.Mathlib.Omega.{arith}
 use borrow.Author.Needs.{needs}
 use Rattle.codec.proofs.Part.{lent-back}
-use Rattle.table.specs.Values.{asMessage}
-use Rattle.table.specs.Node.{published}
+use Rattle.record.specs.Meaning.{asMessage}
+use Rattle.parts.specs.Node.{published}
 use Rattle.table.specs.Parts.{nodeAt, onNode}
 use Rattle.table.proofs.Lent.{node-lent}
 use Rattle.table.proofs.sites.publish_node.Statement.{statement}

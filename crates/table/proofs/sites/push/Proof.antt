@@ -2,8 +2,8 @@
 use native.Mathlib.Omega.{arith}
 use borrow.Author.Needs.{needs}
 use Rattle.codec.proofs.Part.{lent-back}
-use Rattle.table.specs.Channel.{pushed}
-use Rattle.table.specs.Values.{asMessage}
+use Rattle.record.specs.Meaning.{asMessage}
+use Rattle.parts.specs.Channel.{pushed}
 use Rattle.table.specs.Parts.{channelAt, onChannel}
 use Rattle.table.proofs.Lent.{channel-lent}
 use Rattle.table.proofs.sites.push.Statement.{statement}

@@ -4,7 +4,7 @@ use Prim.Native.Nat.{_-_, _≤_}
 use native.Mathlib.Omega.{arith}
 use borrow.Author.Needs.{needs}
 use lib.ListN.{length}
-use Rattle.table.specs.Values.{asMessage}
+use Rattle.record.specs.Meaning.{asMessage}
 use Rattle.table.specs.Put.{sentTo}
 use Rattle.table.proofs.Sent.{sent-none, sent-step, channel-sent}
 use Rattle.table.proofs.sites.send.Statement.{statement}

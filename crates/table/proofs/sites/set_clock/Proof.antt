@@ -1,7 +1,7 @@
 -- `table::sites::set_clock` meets its contract, by what comes back of the node. Assumes nothing.
 use borrow.Author.Needs.{needs}
 use Rattle.codec.proofs.Part.{lent-back}
-use Rattle.table.specs.Node.{clockSet}
+use Rattle.parts.specs.Node.{clockSet}
 use Rattle.table.specs.Parts.{nodeAt, onNode}
 use Rattle.table.proofs.sites.set_clock.Statement.{statement}
 use Rattle.table.proofs.sites.set_clock.Tie as tie

@@ -1,0 +1,44 @@
+-- A test of every number below n. In order: what it says of each number and what it follows from; two such tests joined; the test from the front; and a claim
+-- of every number below n, made number after number.
+use Prim.Native.Nat.{ℕ, zero, suc, _<_}
+use native.Mathlib.Decide.{decLt}
+use native.Mathlib.Omega.{arith}
+use mathlib.Core.Path.{_≡_, refl, sym, subst}
+use mathlib.Core.Bool.{Bool, _&&_, and-true, and-assoc}
+use lib.Dec.{T}
+use mir.Facts.{and-yes, yes-and}
+use Rattle.codec.specs.Below.{allBelow}
+use Rattle.codec.proofs.Tests.{and-swap}
+
+pub all-below-at : (n : ℕ) (f : ℕ → Bool) → T (allBelow n f) → (i : ℕ) → i < n → T (f i)
+unfolding allBelow
+all-below-at zero f t i l = absurd (omega arith)
+all-below-at (suc n) f t i l = go (all-below-at n f (and-yes (allBelow n f) (f n) t .0) i) (decLt i n)
+  where
+    go : (i < n → T (f i)) → Dec (i < n) → T (f i)
+    go r (yes k) = r k
+    go r (no k) = subst (λ j. T (f j)) (let e : n ≡ i = omega arith in e) (and-yes (allBelow n f) (f n) t .1)
+
+pub all-below : (n : ℕ) (f : ℕ → Bool) → ((i : ℕ) → i < n → T (f i)) → T (allBelow n f)
+unfolding allBelow
+all-below zero f h = tt
+all-below (suc n) f h = yes-and (allBelow n f) (f n) (all-below n f (λ i l. h i (omega arith))) (h n (omega arith))
+
+pub allBelow-and : (n : ℕ) (f g : ℕ → Bool) → allBelow n (λ i. f i && g i) ≡ (allBelow n f && allBelow n g)
+unfolding allBelow
+allBelow-and zero f g = refl
+allBelow-and (suc n) f g = rw (allBelow-and n f g) (and-swap (allBelow n f) (allBelow n g) (f n) (g n))
+
+pub allBelow-front : (n : ℕ) (f : ℕ → Bool) → allBelow (suc n) f ≡ (f 0 && allBelow n (λ i. f (suc i)))
+unfolding allBelow
+allBelow-front zero f = sym (and-true (f 0))
+allBelow-front (suc n) f = rw (allBelow-front n f) (and-assoc (f 0) (allBelow n (λ i. f (suc i))) (f (suc n)))
+
+-- ---- a claim of every number below n, one number after the other: first _ 1 (claim of 0) (first _ 0 (claim of 1) (none _))
+
+pub none : (P : ℕ → Type 0) (n : ℕ) → n < 0 → P n
+none P n h = absurd (omega arith)
+
+pub first : (P : ℕ → Type 0) (k : ℕ) → P 0 → ((n : ℕ) → n < k → P (suc n)) → (n : ℕ) → n < suc k → P n
+first P k p q zero h = p
+first P k p q (suc n) h = q n (omega arith)

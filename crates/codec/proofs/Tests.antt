@@ -1,0 +1,89 @@
+-- Tests and choices: what holds of both sides of a choice holds of it, how a test is shown to pass, and tests joined in another order. What a passed
+-- test says is in mir.Facts.
+-- Assumes nothing.
+use Prim.Native.Nat.{ℕ, _-_}
+use mathlib.Core.Path.{_≡_, refl, subst, sym, ap, _∙_}
+use mathlib.Core.Bool.{Bool, true, false, cond, not, _&&_, _||_, and-assoc, and-comm}
+use lib.Dec.{T, eqb, eqb-refl}
+use borrow.Author.Tests.{not-true, not-false}
+
+pub cond-elim {ℓ κ} : {A : Type ℓ} (P : A → Type κ) (b : Bool) {x y : A} → (T b → P x) → (T (not b) → P y) → P (cond b x y)
+cond-elim P true f g = f tt
+cond-elim P false f g = g tt
+
+pub yes-or-l : (a b : Bool) → T a → T (a || b)
+yes-or-l true b t = tt
+yes-or-l false b t = absurd t
+
+pub yes-or-r : (a b : Bool) → T b → T (a || b)
+yes-or-r true b t = tt
+yes-or-r false b t = t
+
+pub yes-eqb : (m n : ℕ) → m ≡ n → T (eqb m n)
+yes-eqb m n e = subst (λ k. T (eqb m k)) e (eqb-refl m)
+
+pub and-swap : (a b c d : Bool) → (a && b && (c && d)) ≡ (a && c && (b && d))
+and-swap true true c d = refl
+and-swap true false true d = refl
+and-swap true false false d = refl
+and-swap false b c d = refl
+
+pub same-test : (a b : Bool) → (T a → T b) → (T b → T a) → a ≡ b
+same-test true true f g = refl
+same-test true false f g = absurd (f tt)
+same-test false true f g = absurd (g tt)
+same-test false false f g = refl
+
+pub implies : (b x : Bool) → T (not b || x) → T b → T x
+implies true x t h = t
+implies false x t h = absurd h
+
+pub yes-implies : (b x : Bool) → (T b → T x) → T (not b || x)
+yes-implies true x f = f tt
+yes-implies false x f = tt
+
+-- what stands behind a test matters only where it passes
+pub and-behind : (a b c : Bool) → (T a → b ≡ c) → (a && b) ≡ (a && c)
+and-behind true b c h = h tt
+and-behind false b c h = refl
+
+-- z must hold unless u, and a if u: one of the two holds
+pub either-yes {ℓ} : {R : Type ℓ} (u z a : Bool) → T ((u || z) && (not u || a)) → (T a → R) → (T z → R) → R
+either-yes true z a t f g = f t
+either-yes false true a t f g = g tt
+
+-- and where u does, a
+pub used-yes : (u z a : Bool) → T u → T ((u || z) && (not u || a)) → T a
+used-yes true z a h t = t
+
+pub and-turn : (a b c : Bool) → (a && b && c) ≡ (a && c && b)
+and-turn a b c = and-assoc a b c ∙ ap (λ (d : Bool). a && d) (and-comm b c) ∙ sym (and-assoc a c b)
+
+pub fails : {r x : Bool} → r ≡ x → not r ≡ true → x ≡ false
+fails {r} e h = sym e ∙ not-true r h
+
+pub passes : {r x : Bool} → r ≡ x → not r ≡ false → x ≡ true
+passes {r} e h = sym e ∙ not-false r h
+
+module _ {ℓ} {A : Type ℓ} where
+  pub cond-no : (b : Bool) (x y : A) → (T b → ⊥) → y ≡ cond b x y
+  cond-no true x y n = absurd (n tt)
+  cond-no false x y n = refl
+
+  pub cond-both : (b : Bool) (x : A) → cond b x x ≡ x
+  cond-both true x = refl
+  cond-both false x = refl
+
+  pub cond-and : (a b : Bool) (x y : A) → cond a (cond b x y) y ≡ cond (a && b) x y
+  cond-and true b x y = refl
+  cond-and false b x y = refl
+
+  pub cond-and₃ : (a b c : Bool) (x y : A) → cond a (cond (b && c) x y) y ≡ cond (a && b && c) x y
+  cond-and₃ true b c x y = refl
+  cond-and₃ false b c x y = refl
+
+  -- f done where a and c hold, then where a and b hold
+  pub cond-more : (f : A → A) (a b c d : Bool) (x y : A) → y ≡ cond (a && c) (f x) x → d ≡ (b || c) → (T b → c ≡ false) → cond (a && b) (f y) y ≡ cond (a && d) (f x) x
+  cond-more f false b c d x y e q n = e
+  cond-more f true true c d x y e q n = ap f (e ∙ ap (λ k. cond k (f x) x) (n tt)) ∙ ap (λ k. cond k (f x) x) (sym q)
+  cond-more f true false c d x y e q n = e ∙ ap (λ k. cond k (f x) x) (sym q)

@@ -1,0 +1,9 @@
+-- A test of every number below n. The laws are in proofs/Below.
+use Prim.Native.Nat.{ℕ, zero, suc, max}
+use mathlib.Core.Bool.{Bool, true, cond, _&&_, _||_}
+use lib.Dec.{leb, eqb}
+
+-- the test f holds at every number below n
+unfoldable pub allBelow : ℕ → (ℕ → Bool) → Bool
+allBelow zero f = true
+allBelow (suc n) f = allBelow n f && f n

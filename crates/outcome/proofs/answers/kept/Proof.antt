@@ -1,0 +1,12 @@
+-- `outcome::answers::kept` meets its contract. Assumes nothing.
+use mathlib.Core.Path.{refl}
+use Rattle.outcome.specs.Decided.{changesOf, outcomeOf}
+use Rattle.outcome.proofs.answers.kept.Statement.{statement}
+use Rattle.outcome.proofs.answers.kept.Tie as tie
+
+returns : tie.Need-returns
+unfolding outcomeOf changesOf
+returns c = refl
+
+pub kept-spec : {M : Type 1} → statement M
+kept-spec = tie.close (tie.spec returns)

@@ -1,0 +1,13 @@
+-- `outcome::keeping::with_vector` meets its contract. Assumes nothing.
+use mathlib.Core.Path.{refl}
+use Rattle.protocol.specs.State.{opened}
+use Rattle.parts.specs.Meaning.{asSession}
+use Rattle.outcome.proofs.keeping.with_vector.Statement.{statement}
+use Rattle.outcome.proofs.keeping.with_vector.Tie as tie
+
+returns : tie.Need-returns
+unfolding asSession opened
+returns c = refl
+
+pub with-vector-spec : {M : Type 1} → statement M
+with-vector-spec = tie.close (tie.spec returns)

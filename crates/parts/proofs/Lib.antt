@@ -1,0 +1,7 @@
+-- Lengths; what each part's bytes say after a change; room; the keys and marks of a page in two arrays.
+pub mod Lengths
+pub mod NodeBytes
+pub mod ChannelBytes
+pub mod SessionBytes
+pub mod Room
+pub mod Marks

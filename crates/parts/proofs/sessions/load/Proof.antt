@@ -1,0 +1,60 @@
+-- `parts::sessions::load` meets its contract: each field is what its load ensures, and of the keys and marks only those in use count. Assumes nothing.
+use native.Mathlib.Omega.{arith}
+use borrow.Author.Needs.{needs}
+use Rattle.codec.specs.Le.{load}
+use Rattle.vector.proofs.Short.{entry-loadVec}
+use Rattle.parts.specs.Meaning.{asSession}
+use Rattle.parts.specs.Session.{sessionIn}
+use Rattle.parts.proofs.Marks.{marks-loaded}
+use Rattle.parts.proofs.sessions.load.Statement.{statement}
+use Rattle.parts.proofs.sessions.load.Tie as tie
+
+load-u8-requires : tie.Need-load-u8-requires
+load-u8-requires c κs = search needs
+
+load-u8-requires-2 : tie.Need-load-u8-requires-2
+load-u8-requires-2 c κs = search needs
+
+load-u8-requires-3 : tie.Need-load-u8-requires-3
+load-u8-requires-3 c κs = search needs
+
+load-u8-requires-4 : tie.Need-load-u8-requires-4
+load-u8-requires-4 c κs = search needs
+
+load-keys-requires : tie.Need-load-keys-requires
+load-keys-requires c κs = search needs
+
+load-marks-requires : tie.Need-load-marks-requires
+load-marks-requires c κs = search needs
+
+load-vector-requires : tie.Need-load-vector-requires
+load-vector-requires c κs = search needs
+
+load-vector-requires-2 : tie.Need-load-vector-requires-2
+load-vector-requires-2 c κs = search needs
+
+load-vector-requires-3 : tie.Need-load-vector-requires-3
+load-vector-requires-3 c κs = search needs
+
+returns : tie.Need-returns
+unfolding asSession sessionIn
+returns c =
+    let k = c .before .before .before in
+    let u = k .before .before in
+    let b = u .before .before .before .before .before .args .b .now in
+    rw (c .load-vector3 .ensures, entry-loadVec b 96, c .before .load-vector2 .ensures, entry-loadVec b 64, c .before .before .load-vector .ensures, entry-loadVec b 32, u .load-u84 .ensures, marks-loaded b (k .before .load-keys .result) (k .load-marks .result) (load 1 b 3) (omega arith) (k .before .load-keys .ensures) (k .load-marks .ensures), u .before .load-u83 .ensures, u .before .before .load-u82 .ensures, u .before .before .before .load-u8 .ensures)
+
+pub load-spec : {M : Type 1} → statement M
+load-spec =
+    tie.close
+    (tie.spec
+    load-u8-requires
+    load-u8-requires-2
+    load-u8-requires-3
+    load-u8-requires-4
+    load-keys-requires
+    load-marks-requires
+    load-vector-requires
+    load-vector-requires-2
+    load-vector-requires-3
+    returns)

@@ -1,0 +1,21 @@
+-- The session that the code holds, as the protocol's.
+use mathlib.Core.Bool.{false}
+use lib.ListN.{getD}
+use Rattle.codec.specs.Tabulate.{tabulate}
+use Rattle.vector.specs.Entries.{entry}
+use Rattle.protocol.specs.State as State
+use Rattle.record.specs.declared.Message.the-variants as Message
+use Rattle.parts.specs.declared.Session.{Session}
+
+unfoldable pub asSession : Session → State.Session
+asSession x = record {
+  isOpen = x .open;
+  site = x .site;
+  vec = entry (x .vec .e);
+  page = record {
+    isOpen = x .paged;
+    vec = entry (x .page .e);
+    marks = tabulate (x .count) (λ i. record { key = getD (x .keys) i 0; read = getD (x .marks) i false });
+    gathered = entry (x .gathered .e);
+  };
+}

@@ -1,0 +1,116 @@
+// A session's 128 bytes. In order: reading, where all eight keys and marks are read and those below the count are in use; and writing, which leaves
+// the keys and marks that are not in use as they were. Assumes nothing.
+ghost use mathlib.Core.Path.{_≡_};
+ghost use mathlib.Core.Bool.{false};
+ghost use Prim.Native.Nat.{ℕ, _+_, _≤_, _<_};
+ghost use lib.Dec.{eqb};
+ghost use lib.ListN.{length, getD};
+ghost use Rattle.codec.specs.Le.{load, put};
+ghost use Rattle.parts.specs.Session.{sessionIn, flag, putMarks, putSession};
+ghost use Rattle.parts.specs.Meaning.{asSession};
+use crate::Session;
+
+fn load_keys(b: &[u8]) -> [u8; 8]
+    requires { ⌜ length (now b) ≡ 128 ⌝ }
+    ensures { λ r. ⌜ ((i : ℕ) → i < 8 → getD r i 0 ≡ load 1 (now (b .entry)) (8 + i)) ⌝ }
+{
+    let mut keys = [0u8; 8];
+    let mut i = 0;
+    while i < 8 {
+        keys[i] = codec::load_u8(b, 8 + i);
+        i += 1;
+    }
+    keys
+}
+
+fn load_marks(b: &[u8]) -> [bool; 8]
+    requires { ⌜ length (now b) ≡ 128 ⌝ }
+    ensures { λ r. ⌜ ((i : ℕ) → i < 8 → getD r i false ≡ eqb (load 1 (now (b .entry)) (16 + i)) 1) ⌝ }
+{
+    let mut marks = [false; 8];
+    let mut i = 0;
+    while i < 8 {
+        marks[i] = codec::load_u8(b, 16 + i) == 1;
+        i += 1;
+    }
+    marks
+}
+
+pub fn load(b: &[u8]) -> Session
+    requires { ⌜ (length (now b) ≡ 128) × (load 1 (now b) 3 ≤ 8) ⌝ }
+    ensures { λ r. ⌜ asSession r ≡ sessionIn (now (b .entry)) ⌝ }
+{
+    let open = codec::load_u8(b, 0) == 1;
+    let site = codec::load_u8(b, 1);
+    let paged = codec::load_u8(b, 2) == 1;
+    let count = codec::load_u8(b, 3);
+    let keys = load_keys(b);
+    let marks = load_marks(b);
+    let vec = vector::load_vector(b, 32);
+    let page = vector::load_vector(b, 64);
+    let gathered = vector::load_vector(b, 96);
+    Session {
+        open,
+        site,
+        vec,
+        paged,
+        count,
+        keys,
+        marks,
+        page,
+        gathered,
+    }
+}
+
+fn flag_of(x: bool) -> u8
+    ensures { λ r. ⌜ r ≡ flag x ⌝ }
+{
+    if x { 1 } else { 0 }
+}
+
+fn store_mark(b: &mut [u8], i: usize, key: u8, read: bool)
+    requires { ⌜ (length (now b) ≡ 128) × (i < 8) ⌝ }
+    ensures { λ _. ⌜ now (b .exit) ≡ put 1 (put 1 (now (b .entry)) (8 + i) key) (16 + i) (flag read) ⌝ }
+{
+    codec::store_u8(b, 8 + i, key);
+    codec::store_u8(b, 16 + i, flag_of(read));
+}
+
+fn store_marks(b: &mut [u8], x: Session)
+    requires { ⌜ (length (now b) ≡ 128) × (x .count ≤ 8) ⌝ }
+    ensures { λ _. ⌜ now (b .exit) ≡ putMarks (now (b .entry)) 0 (asSession x .page .marks) ⌝ }
+{
+    let keys = x.keys;
+    let marks = x.marks;
+    let count = x.count as usize;
+    let mut i = 0;
+    while i < count {
+        store_mark(b, i, keys[i], marks[i]);
+        i += 1;
+    }
+}
+
+// The four bytes that the vectors and the marks stand behind.
+fn store_head(b: &mut [u8], x: Session)
+    requires { ⌜ length (now b) ≡ 128 ⌝ }
+    ensures { λ _. ⌜ now (b .exit) ≡ put 1 (put 1 (put 1 (put 1 (now (b .entry)) 0 (flag (x .open))) 1 (x .site)) 2 (flag (x .paged))) 3 (x .count) ⌝ }
+{
+    codec::store_u8(b, 0, flag_of(x.open));
+    codec::store_u8(b, 1, x.site);
+    codec::store_u8(b, 2, flag_of(x.paged));
+    codec::store_u8(b, 3, x.count);
+}
+
+pub fn store(b: &mut [u8], x: Session)
+    requires { ⌜ (length (now b) ≡ 128) × (x .count ≤ 8) ⌝ }
+    ensures { λ _. ⌜ now (b .exit) ≡ putSession (asSession x) (now (b .entry)) ⌝ }
+{
+    let vec = x.vec;
+    let page = x.page;
+    let gathered = x.gathered;
+    store_head(b, x);
+    vector::store_vector(b, 32, vec);
+    vector::store_vector(b, 64, page);
+    vector::store_vector(b, 96, gathered);
+    store_marks(b, x);
+}

@@ -1,0 +1,189 @@
+-- Lawful times, vectors, levels, records and messages as facts. For each kind: the facts, how they follow from the test and give it back, and that the value fits
+-- its bytes. A vector's facts say more than the test: it has no entry beyond the sites, at any number; a vector that was read from bytes has none.
+use Prim.Native.Nat.{ℕ, _^_, _≤_, _<_}
+use native.Mathlib.Decide.{decLt}
+use native.Mathlib.Omega.{arith}
+use mathlib.Core.Path.{_≡_, refl}
+use mathlib.Core.Bool.{cond, _&&_}
+use lib.Dec.{T, ltb, eqb}
+use lib.IntN.{ℤ, pos, negsuc}
+use mir.Facts.{and-yes, yes-and, ltb-yes, ltb-no, leb-yes, eqb-yes, yes-ltb, yes-eqb}
+use borrow.Author.Tests.{lt-ltb, le-ltb}
+use Rattle.codec.specs.Le.{span}
+use Rattle.codec.specs.Level.{FitsLevel}
+use Rattle.codec.proofs.Tests.{cond-elim}
+use Rattle.codec.proofs.Below.{all-below-at, all-below}
+use Rattle.vector.specs.Vec.{Vec, width, zeros, withEntry, atLeast, larger, raised}
+use Rattle.vector.proofs.Short.{Short}
+use Rattle.protocol.specs.Record.{Setting, partOf, Rec, Msg, Update, Beat, stampIn}
+use Rattle.protocol.specs.Needs.{levelLawful}
+use Rattle.protocol.proofs.Marked.{vec}
+use Rattle.record.specs.Fits.{FitsVec, FitsRec, FitsMsg}
+use Rattle.record.specs.Ranges.{timeLawful, vecLawful, recordLawful, messageLawful}
+
+-- ---- a time's bytes
+
+pub time-fits : (t : ℕ) → t < 2 ^ 48 → t < span 8
+unfolding span
+time-fits t h = omega arith
+
+-- ---- vectors
+
+pub record LawfulVec (c : Setting) (v : Vec) : Type 0 where
+  pub below : (i : ℕ) → v i < 2 ^ 48
+  pub beyond : (i : ℕ) → c .sites ≤ i → v i ≡ 0
+
+entry-facts : (n i x : ℕ) → T (cond (ltb i n) (timeLawful x) (eqb x 0)) → (x < 2 ^ 48) × (n ≤ i → x ≡ 0)
+unfolding timeLawful
+entry-facts n i x t = go (decLt i n)
+  where
+    go : Dec (i < n) → (x < 2 ^ 48) × (n ≤ i → x ≡ 0)
+    go (yes l) = (ltb-yes (rw (lt-ltb i n l) at t), λ h. absurd (omega arith))
+    go (no l) = let e : x ≡ 0 = eqb-yes (rw (le-ltb i n (omega arith)) at t) in (omega arith, λ h. e)
+
+pub vec-facts : (c : Setting) (v : Vec) → T (vecLawful c v) → Short v → LawfulVec c v
+unfolding vecLawful
+vec-facts c v t short = record { below = λ i. facts i .0; beyond = λ i. facts i .1 }
+  where
+    facts : (i : ℕ) → (v i < 2 ^ 48) × (c .sites ≤ i → v i ≡ 0)
+    facts i = go (decLt i width)
+      where
+        go : Dec (i < width) → (v i < 2 ^ 48) × (c .sites ≤ i → v i ≡ 0)
+        go (yes l) = entry-facts (c .sites) i (v i) (all-below-at width (λ j. cond (ltb j (c .sites)) (timeLawful (v j)) (eqb (v j) 0)) t i l)
+        go (no l) = let e = short i (omega arith) in (omega arith, λ h. e)
+
+pub vec-lawful : (c : Setting) (v : Vec) → LawfulVec c v → T (vecLawful c v)
+unfolding vecLawful timeLawful
+vec-lawful c v ok =
+    all-below width (λ i. cond (ltb i (c .sites)) (timeLawful (v i)) (eqb (v i) 0))
+    (λ i l. cond-elim T (ltb i (c .sites)) (λ h. yes-ltb (ok .below i)) (λ h. yes-eqb (ok .beyond i (ltb-no h))))
+
+pub vec-fits : (c : Setting) (v : Vec) → c .sites ≤ 4 → LawfulVec c v → FitsVec v
+unfolding width
+vec-fits c v few ok = record { below = λ i. time-fits (v i) (ok .below i); beyond = λ i h. ok .beyond i (omega arith) }
+
+module _ (c : Setting) where
+  pub zeros-lawful : LawfulVec c zeros
+  unfolding zeros
+  zeros-lawful = record { below = λ i. omega arith; beyond = λ i h. refl }
+
+  pub larger-lawful : (v w : Vec) → LawfulVec c v → LawfulVec c w → LawfulVec c (larger v w)
+  unfolding larger
+  larger-lawful v w ok ok′ = record { below = λ i. omega (arith, ok .below i, ok′ .below i); beyond = λ i h. omega (arith, ok .beyond i h, ok′ .beyond i h) }
+
+  module _ (v : Vec) (m t : ℕ) (ok : LawfulVec c v) (h : m < c .sites) (b : t < 2 ^ 48) where
+    pub with-entry-lawful : LawfulVec c (withEntry v m t)
+    unfolding withEntry
+    with-entry-lawful = record {
+      below = λ i. cond-elim (λ x. x < 2 ^ 48) (eqb i m) (λ e. b) (λ e. ok .below i);
+      beyond = λ i g. cond-elim (λ x. x ≡ 0) (eqb i m) (λ e. let q : i ≡ m = eqb-yes e in absurd (omega arith)) (λ e. ok .beyond i g);
+    }
+
+    pub at-least-lawful : LawfulVec c (atLeast v m t)
+    unfolding atLeast
+    at-least-lawful = record {
+      below = λ i. cond-elim (λ x. x < 2 ^ 48) (eqb i m) (λ e. omega (arith, ok .below i)) (λ e. ok .below i);
+      beyond = λ i g. cond-elim (λ x. x ≡ 0) (eqb i m) (λ e. let q : i ≡ m = eqb-yes e in absurd (omega arith)) (λ e. ok .beyond i g);
+    }
+
+  pub raised-lawful : (v w : Vec) (m t : ℕ) → LawfulVec c v → LawfulVec c w → m < c .sites → t < 2 ^ 48 → LawfulVec c (raised v w m t)
+  unfolding raised
+  raised-lawful v w m t ok ok′ h b = at-least-lawful (larger v w) m t (larger-lawful v w ok ok′) h b
+
+-- ---- levels
+
+pub level-fits : (z : ℤ) → T (levelLawful z) → FitsLevel z
+unfolding levelLawful FitsLevel
+level-fits (pos n) t = let h : n ≤ 1000000 = leb-yes t in omega arith
+level-fits (negsuc n) t = let h : n < 50000 = ltb-yes t in omega arith
+
+-- ---- records
+
+pub record LawfulRec (c : Setting) (p : ℕ) (r : Rec) : Type 0 where
+  pub key : r .id .key < 64
+  pub part : partOf c (r .id .key) ≡ p
+  pub source : r .id .source < c .sites
+  pub quality : r .quality < 3
+  pub level : T (levelLawful (r .level))
+  pub stamp : r .id .stamp < 2 ^ 48
+  pub carried : LawfulVec c (r .carried)
+
+module _ (c : Setting) (p : ℕ) (r : Rec) where
+  pub record-facts : T (recordLawful c p r) → Short (r .carried) → LawfulRec c p r
+  unfolding recordLawful timeLawful
+  record-facts t short =
+      let place = ltb (r .id .key) 64 && eqb (partOf c (r .id .key)) p in
+      let source = ltb (r .id .source) (c .sites) in
+      let quality = ltb (r .quality) 3 in
+      let level = levelLawful (r .level) in
+      let stamp = ltb (r .id .stamp) (2 ^ 48) in
+      let vec = vecLawful c (r .carried) in
+      let a = and-yes place (source && (quality && (level && (stamp && vec)))) t in
+      let b = and-yes (ltb (r .id .key) 64) (eqb (partOf c (r .id .key)) p) (a .0) in
+      let d = and-yes source (quality && (level && (stamp && vec))) (a .1) in
+      let e = and-yes quality (level && (stamp && vec)) (d .1) in
+      let f = and-yes level (stamp && vec) (e .1) in
+      let g = and-yes stamp vec (f .1) in
+      record {
+        key = ltb-yes (b .0);
+        part = eqb-yes (b .1);
+        source = ltb-yes (d .0);
+        quality = ltb-yes (e .0);
+        level = f .0;
+        stamp = ltb-yes (g .0);
+        carried = vec-facts c (r .carried) (g .1) short;
+      }
+
+  pub record-lawful : LawfulRec c p r → T (recordLawful c p r)
+  unfolding recordLawful timeLawful
+  record-lawful R =
+      let quality = ltb (r .quality) 3 in
+      let stamp = ltb (r .id .stamp) (2 ^ 48) in
+      let vec = vecLawful c (r .carried) in
+      yes-and (ltb (r .id .key) 64 && eqb (partOf c (r .id .key)) p) (ltb (r .id .source) (c .sites) && (quality && (levelLawful (r .level) && (stamp && vec))))
+      (yes-and (ltb (r .id .key) 64) (eqb (partOf c (r .id .key)) p) (yes-ltb (R .key)) (yes-eqb (R .part)))
+      (yes-and (ltb (r .id .source) (c .sites)) (quality && (levelLawful (r .level) && (stamp && vec))) (yes-ltb (R .source))
+      (yes-and quality (levelLawful (r .level) && (stamp && vec)) (yes-ltb (R .quality))
+      (yes-and (levelLawful (r .level)) (stamp && vec) (R .level) (yes-and stamp vec (yes-ltb (R .stamp)) (vec-lawful c (r .carried) (R .carried))))))
+
+  pub record-fits : c .sites ≤ 4 → LawfulRec c p r → FitsRec r
+  record-fits few R = record {
+    key = omega (arith, R .key);
+    source = omega (arith, R .source);
+    stamp = time-fits (r .id .stamp) (R .stamp);
+    quality = omega (arith, R .quality);
+    level = level-fits (r .level) (R .level);
+    carried = vec-fits c (r .carried) few (R .carried);
+  }
+
+-- ---- messages of the channel from site i at partition p
+
+abbrev pub LawfulMsg : Setting → (i p : ℕ) → Msg → Type 0
+LawfulMsg c i p (Update r) = (r .id .source ≡ i) × LawfulRec c p r
+LawfulMsg c i p (Beat t) = t < 2 ^ 48
+
+-- the vector that a message carries, if it does, has no entry beyond the width
+abbrev pub ShortMsg : Msg → Type 0
+ShortMsg (Update r) = Short (r .carried)
+ShortMsg (Beat t) = Unit {0}
+
+module _ (c : Setting) (i p : ℕ) where
+  pub message-facts : (x : Msg) → T (messageLawful c i p x) → ShortMsg x → LawfulMsg c i p x
+  unfolding messageLawful timeLawful
+  message-facts (Update r) t short =
+      let a = and-yes (eqb (r .id .source) i) (recordLawful c p r) t in (eqb-yes (a .0), record-facts c p r (a .1) short)
+  message-facts (Beat s) t short = ltb-yes t
+
+  pub message-lawful : (x : Msg) → LawfulMsg c i p x → T (messageLawful c i p x)
+  unfolding messageLawful timeLawful
+  message-lawful (Update r) X = yes-and (eqb (r .id .source) i) (recordLawful c p r) (yes-eqb (X .0)) (record-lawful c p r (X .1))
+  message-lawful (Beat s) X = yes-ltb X
+
+  pub message-fits : (x : Msg) → c .sites ≤ 4 → LawfulMsg c i p x → FitsMsg x
+  message-fits (Update r) few X = record-fits c p r few (X .1)
+  message-fits (Beat s) few X = time-fits s X
+
+  pub stamp-lawful : (x : Msg) → LawfulMsg c i p x → stampIn x < 2 ^ 48
+  unfolding stampIn
+  stamp-lawful (Update r) X = X .1 .stamp
+  stamp-lawful (Beat s) X = X

@@ -1,0 +1,13 @@
+-- `record::times::entry_limit` meets its contract, on either side of its test. Assumes nothing.
+use borrow.Author.Tests.{lt-ltb, le-ltb}
+use Rattle.record.proofs.times.entry_limit.Statement.{statement}
+use Rattle.record.proofs.times.entry_limit.Tie as tie
+
+returns : tie.Need-returns
+returns c = rw (lt-ltb _ _ (c .if1 .taken))
+
+returns-2 : tie.Need-returns-2
+returns-2 c = rw (le-ltb _ _ (c .if1 .left))
+
+pub entry-limit-spec : {M : Type 1} → statement M
+entry-limit-spec = tie.close (tie.spec returns returns-2)

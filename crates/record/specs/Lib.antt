@@ -1,0 +1,6 @@
+-- A record's and a message's bytes; the range of each field, and when the bytes are well formed; the values that the code holds; when a value fits its bytes.
+pub mod RecordBytes
+pub mod Ranges
+pub mod RecordFormed
+pub mod Meaning
+pub mod Fits

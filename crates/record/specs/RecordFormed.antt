@@ -1,0 +1,25 @@
+-- When the bytes of a record and of a message are well formed.
+use Prim.Native.Nat.{ℕ, _+_}
+use mathlib.Core.Bool.{Bool, _&&_, _||_}
+use mathlib.Core.List.{List}
+use lib.Dec.{eqb}
+use Rattle.codec.specs.Le.{load}
+use Rattle.codec.specs.Below.{allBelow}
+use Rattle.vector.specs.Vec.{width}
+use Rattle.vector.specs.Entries.{loadVec}
+use Rattle.protocol.specs.Record.{Setting}
+use Rattle.record.specs.RecordBytes.{recordAt, messageAt}
+use Rattle.record.specs.Ranges.{recordLawful, messageLawful}
+
+-- a record in use of partition p: "A stored record has kind 1"
+unfoldable pub recordFormed : Setting → (p : ℕ) → List ℕ → (at : ℕ) → Bool
+recordFormed c p n at = eqb (load 1 n (at + 3)) 1 && recordLawful c p (recordAt n at)
+
+-- "A heartbeat has key, quality, level and vector zero", and its channel's source
+unfoldable pub beatFormed : (i : ℕ) → List ℕ → (at : ℕ) → Bool
+beatFormed i b at =
+    eqb (load 1 b at) 0 && (eqb (load 1 b (at + 1)) i && (eqb (load 1 b (at + 2)) 0 && (eqb (load 4 b (at + 4)) 0 && allBelow width (λ e. eqb (loadVec b (at + 16) e) 0))))
+
+-- a message in use of the channel from site i at partition p: "a lawful kind"
+unfoldable pub messageFormed : Setting → (i p : ℕ) → List ℕ → (at : ℕ) → Bool
+messageFormed c i p b at = (eqb (load 1 b (at + 3)) 1 || (eqb (load 1 b (at + 3)) 2 && beatFormed i b at)) && messageLawful c i p (messageAt b at)

@@ -1,0 +1,128 @@
+// "A record, and an update in transit, is 48 bytes, little-endian": a record and a message at a place of the bytes, read and written.
+// In order: reading, a message's stamp, writing. Assumes nothing.
+ghost use mathlib.Core.Path.{_≡_};
+ghost use Prim.Native.Nat.{_+_, _≤_};
+ghost use lib.ListN.{length};
+ghost use Rattle.vector.specs.Entries.{entry};
+ghost use Rattle.protocol.specs.Record.{stampIn};
+ghost use Rattle.record.specs.RecordBytes.{recordAt, messageAt, putFields, putMessage};
+ghost use Rattle.record.specs.Meaning.{asRecord, asMessage};
+use crate::Letter;
+use crate::Message;
+use crate::Record;
+use vector::Vector;
+
+// "A stored record has kind 1"
+const UPDATE: u8 = 1;
+
+const HEARTBEAT: u8 = 2;
+
+pub fn load_record(b: &[u8], at: usize) -> Record
+    requires { ⌜ at + 48 ≤ length (now b) ⌝ }
+    ensures { λ r. ⌜ asRecord r ≡ recordAt (now (b .entry)) at ⌝ }
+{
+    let key = codec::load_u8(b, at);
+    let source = codec::load_u8(b, at + 1);
+    let quality = codec::load_u8(b, at + 2);
+    let level = codec::load_level(b, at + 4);
+    let stamp = codec::load_u64(b, at + 8);
+    let carried = vector::load_vector(b, at + 16);
+    Record {
+        key,
+        source,
+        quality,
+        level,
+        stamp,
+        carried,
+    }
+}
+
+// What is no update is read as a heartbeat.
+pub fn load_message(b: &[u8], at: usize) -> Letter
+    requires { ⌜ at + 48 ≤ length (now b) ⌝ }
+    ensures { λ r. ⌜ asMessage r ≡ messageAt (now (b .entry)) at ⌝ }
+{
+    if codec::load_u8(b, at + 3) == UPDATE {
+        let r = load_record(b, at);
+        let carried = r.carried;
+        let message = Message::Update {
+            key: r.key,
+            source: r.source,
+            quality: r.quality,
+            level: r.level,
+            stamp: r.stamp,
+        };
+        Letter { message, carried }
+    } else {
+        let message = Message::Heartbeat {
+            stamp: codec::load_u64(b, at + 8),
+        };
+        Letter {
+            message,
+            carried: Vector::ZERO,
+        }
+    }
+}
+
+pub fn stamp(x: Letter) -> u64
+    ensures { λ r. ⌜ r ≡ stampIn (asMessage x) ⌝ }
+{
+    let message = x.message;
+    match message {
+        Message::Update {
+            key: _,
+            source: _,
+            quality: _,
+            level: _,
+            stamp,
+        } => stamp,
+        Message::Heartbeat { stamp } => stamp,
+    }
+}
+
+// The seven fields, in the order of their places.
+fn store_fields(
+    b: &mut [u8],
+    at: usize,
+    key: u8,
+    source: u8,
+    quality: u8,
+    kind: u8,
+    level: i32,
+    stamp: u64,
+    carried: Vector,
+)
+    requires { ⌜ at + 48 ≤ length (now b) ⌝ }
+    ensures { λ _. ⌜ now (b .exit) ≡ putFields (now (b .entry)) at key source quality kind level stamp (entry (carried .e)) ⌝ }
+{
+    codec::store_u8(b, at, key);
+    codec::store_u8(b, at + 1, source);
+    codec::store_u8(b, at + 2, quality);
+    codec::store_u8(b, at + 3, kind);
+    codec::store_level(b, at + 4, level);
+    codec::store_u64(b, at + 8, stamp);
+    vector::store_vector(b, at + 16, carried);
+}
+
+// "A heartbeat has key, quality, level and vector zero": its source is the site m that sends it.
+pub fn store_message(b: &mut [u8], at: usize, m: u8, x: Letter)
+    requires { ⌜ at + 48 ≤ length (now b) ⌝ }
+    ensures { λ _. ⌜ now (b .exit) ≡ putMessage (now (b .entry)) at m (asMessage x) ⌝ }
+{
+    let message = x.message;
+    match message {
+        Message::Update {
+            key,
+            source,
+            quality,
+            level,
+            stamp,
+        } => {
+            let carried = x.carried;
+            store_fields(b, at, key, source, quality, UPDATE, level, stamp, carried);
+        }
+        Message::Heartbeat { stamp } => {
+            store_fields(b, at, 0, m, 0, HEARTBEAT, 0, stamp, Vector::ZERO);
+        }
+    }
+}

@@ -1,0 +1,92 @@
+// "each record and message in use has a lawful kind, its channel's source (for a message) or an existing source (for a record), and, save in a
+// heartbeat with its zeros, a key of its partition, and level and quality in range". In order: a record, a stored one,
+// an update, a heartbeat, a message. Assumes nothing.
+ghost use mathlib.Core.Path.{_≡_};
+ghost use Prim.Native.Nat.{_+_, _≤_, _<_};
+ghost use lib.ListN.{length};
+ghost use Rattle.protocol.specs.Record.{Update};
+ghost use Rattle.record.specs.RecordBytes.{recordAt};
+ghost use Rattle.record.specs.Ranges.{recordLawful, messageLawful};
+ghost use Rattle.record.specs.RecordFormed.{recordFormed, beatFormed, messageFormed};
+use crate::times;
+use protocol::limits;
+
+// The record at `at`, of partition p. Each field is loaded where it is tested, so that a lawful one costs one comparison.
+pub fn record_lawful(b: &[u8], at: usize, sites: u8, parts: u8, p: u8) -> bool
+    requires { ⌜ (at + 48 ≤ length (now b)) × (0 < parts) ⌝ }
+    ensures { λ r. ⌜ r ≡ recordLawful (record { sites = sites; parts = parts }) p (recordAt (now (b .entry)) at) ⌝ }
+{
+    let key = codec::load_u8(b, at);
+    if 64 <= key {
+        return false;
+    }
+    if limits::partition_of(key, parts) != p {
+        return false;
+    }
+    if sites <= codec::load_u8(b, at + 1) {
+        return false;
+    }
+    if 3 <= codec::load_u8(b, at + 2) {
+        return false;
+    }
+    if !limits::level_lawful(codec::load_level(b, at + 4)) {
+        return false;
+    }
+    if !times::time_lawful(codec::load_u64(b, at + 8)) {
+        return false;
+    }
+    times::vector_formed(b, at + 16, sites)
+}
+
+// "A stored record has kind 1"
+pub fn record_formed(n: &[u8], at: usize, sites: u8, parts: u8, p: u8) -> bool
+    requires { ⌜ (at + 48 ≤ length (now n)) × (0 < parts) ⌝ }
+    ensures { λ r. ⌜ r ≡ recordFormed (record { sites = sites; parts = parts }) p (now (n .entry)) at ⌝ }
+{
+    if codec::load_u8(n, at + 3) != 1 {
+        return false;
+    }
+    record_lawful(n, at, sites, parts, p)
+}
+
+// What stands at `at`, as an update of site i.
+pub fn update_formed(b: &[u8], at: usize, sites: u8, parts: u8, i: u8, p: u8) -> bool
+    requires { ⌜ (at + 48 ≤ length (now b)) × (0 < parts) ⌝ }
+    ensures { λ r. ⌜ r ≡ messageLawful (record { sites = sites; parts = parts }) i p (Update (recordAt (now (b .entry)) at)) ⌝ }
+{
+    if codec::load_u8(b, at + 1) != i {
+        return false;
+    }
+    record_lawful(b, at, sites, parts, p)
+}
+
+// "A heartbeat has key, quality, level and vector zero". Wide numbers are compared with the key, which is 0: with a plain 0 they would be
+// compared byte by byte.
+pub fn beat_formed(b: &[u8], at: usize, i: u8) -> bool
+    requires { ⌜ at + 48 ≤ length (now b) ⌝ }
+    ensures { λ r. ⌜ r ≡ beatFormed i (now (b .entry)) at ⌝ }
+{
+    let key = codec::load_u8(b, at);
+    let source = codec::load_u8(b, at + 1);
+    let quality = codec::load_u8(b, at + 2);
+    let level = codec::load_u32(b, at + 4);
+    (key == 0)
+        & ((source == i)
+            & ((quality == 0)
+                & ((level <= key as u32) & times::none_above(b, at + 16, key as u64))))
+}
+
+// A message of the channel from site i at partition p: kind 1 is an update, 2 a heartbeat.
+pub fn message_formed(b: &[u8], at: usize, sites: u8, parts: u8, i: u8, p: u8) -> bool
+    requires { ⌜ (at + 48 ≤ length (now b)) × (0 < parts) ⌝ }
+    ensures { λ r. ⌜ r ≡ messageFormed (record { sites = sites; parts = parts }) i p (now (b .entry)) at ⌝ }
+{
+    let kind = codec::load_u8(b, at + 3);
+    if kind == 1 {
+        return update_formed(b, at, sites, parts, i, p);
+    }
+    if kind != 2 {
+        return false;
+    }
+    beat_formed(b, at, i) & times::time_lawful(codec::load_u64(b, at + 8))
+}

@@ -1,0 +1,37 @@
+// "A record, and an update in transit, is 48 bytes, little-endian." Here are the values that the code holds: a record, a message, and a letter, which is a
+// message with the vector that an update carries. The files: bytes (read and written), times (what is lawful of a time and a vector), formed (what is lawful of
+// a record's and a message's bytes).
+use vector::Vector;
+
+pub mod bytes;
+pub mod formed;
+pub mod times;
+
+// A stored record.
+pub struct Record {
+    pub key: u8,
+    pub source: u8,
+    pub quality: u8,
+    pub level: i32,
+    pub stamp: u64,
+    pub carried: Vector,
+}
+
+// "a delivery carries one message, which is either an update or a heartbeat": numbers, an update's vector stands beside it.
+pub enum Message {
+    Update {
+        key: u8,
+        source: u8,
+        quality: u8,
+        level: i32,
+        stamp: u64,
+    },
+    Heartbeat {
+        stamp: u64,
+    },
+}
+
+pub struct Letter {
+    pub message: Message,
+    pub carried: Vector,
+}

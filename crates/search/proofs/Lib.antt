@@ -1,0 +1,2 @@
+-- What fits a read of either kind.
+pub mod Fit

@@ -1,0 +1,51 @@
+-- `search::is_candidate` meets its contract, by the tests in their order. Assumes nothing.
+use mathlib.Core.Path.{sym, _∙_}
+use borrow.Author.Needs.{needs}
+use borrow.Author.Tests.{eq-eqb, ne-eqb}
+use Rattle.vector.proofs.Short.{entry-loadVec}
+use Rattle.protocol.specs.Record.{ofKey}
+use Rattle.record.specs.RecordBytes.{recordAt}
+use Rattle.search.specs.Found.{fitsRead}
+use Rattle.search.proofs.is_candidate.Statement.{statement}
+use Rattle.search.proofs.is_candidate.Tie as tie
+
+load-u8-requires : tie.Need-load-u8-requires
+load-u8-requires c κs = search needs
+
+returns : tie.Need-returns
+unfolding fitsRead ofKey recordAt
+returns c = rw (ne-eqb _ _ (λ e. c .if1 .taken (c .before .load-u8 .ensures ∙ e)))
+
+add-load-vector : tie.Need-add-load-vector
+add-load-vector c = search needs
+
+load-vector-requires : tie.Need-load-vector-requires
+load-vector-requires c κs = search needs
+
+at-most-requires : tie.Need-at-most-requires
+at-most-requires c κs = search needs
+
+returns-2 : tie.Need-returns-2
+unfolding fitsRead ofKey recordAt
+returns-2 c =
+    let u = c .before .before in
+    let k = u .before .before in
+    rw (eq-eqb _ _ (sym (k .load-u8 .ensures) ∙ u .before .if1 .left), u .if2 .taken) (c .at-most .ensures ∙ rw (c .before .load-vector .ensures, entry-loadVec))
+
+returns-3 : tie.Need-returns-3
+unfolding fitsRead ofKey recordAt
+returns-3 c =
+    let k = c .before .before in
+    rw (eq-eqb _ _ (sym (k .load-u8 .ensures) ∙ c .before .if1 .left), c .if2 .left)
+
+pub is-candidate-spec : {M : Type 1} → statement M
+is-candidate-spec =
+    tie.close
+    (tie.spec
+    load-u8-requires
+    returns
+    add-load-vector
+    load-vector-requires
+    at-most-requires
+    returns-2
+    returns-3)

@@ -1,0 +1,2 @@
+-- What the search gives, and what fits a read.
+pub mod Found
