@@ -1,10 +1,11 @@
 -- A test of every number below n. In order: what it says of each number and what it follows from; two such tests joined; the test from the front; and a claim
 -- of every number below n, made number after number.
-use Prim.Native.Nat.{ℕ, zero, suc, _<_}
+use Prim.Native.Nat.{ℕ, zero, suc, _<_, _+_}
 use native.Mathlib.Decide.{decLt}
 use native.Mathlib.Omega.{arith}
+use native.Mathlib.Numerals.{add-one}
 use mathlib.Core.Path.{_≡_, refl, sym, subst}
-use mathlib.Core.Bool.{Bool, _&&_, and-true, and-assoc}
+use mathlib.Core.Bool.{Bool, _&&_, and-true, and-assoc, true, false}
 use lib.Dec.{T}
 use mir.Facts.{and-yes, yes-and}
 use Rattle.codec.specs.Below.{allBelow}
@@ -33,6 +34,33 @@ pub allBelow-front : (n : ℕ) (f : ℕ → Bool) → allBelow (suc n) f ≡ (f 
 unfolding allBelow
 allBelow-front zero f = sym (and-true (f 0))
 allBelow-front (suc n) f = rw (allBelow-front n f) (and-assoc (f 0) (allBelow n (λ i. f (suc i))) (f (suc n)))
+
+pub allBelow-ext : (n : ℕ) (f g : ℕ → Bool) → ((i : ℕ) → i < n → f i ≡ g i) → allBelow n f ≡ allBelow n g
+unfolding allBelow
+allBelow-ext zero f g h = refl
+allBelow-ext (suc n) f g h = rw (allBelow-ext n f g (λ i b. h i (omega arith)), h n (omega arith))
+
+-- ---- one number more, as a loop counts: a walk goes on while the test holds, and ends where it fails
+
+pub allBelow-none : (f : ℕ → Bool) → allBelow 0 f ≡ true
+unfolding allBelow
+allBelow-none f = refl
+
+pub allBelow-step : (n : ℕ) (f : ℕ → Bool) → allBelow (n + 1) f ≡ (allBelow n f && f n)
+allBelow-step n f = rw (add-one n) (unfold allBelow in refl)
+
+pub allBelow-more : (n : ℕ) (f : ℕ → Bool) → allBelow n f ≡ true → f n ≡ true → allBelow (n + 1) f ≡ true
+allBelow-more n f h q = rw (allBelow-step n f, h, q)
+
+pub allBelow-fails : (n : ℕ) (f : ℕ → Bool) (i : ℕ) → i < n → f i ≡ false → allBelow n f ≡ false
+unfolding allBelow
+allBelow-fails zero f i l q = absurd (omega arith)
+allBelow-fails (suc n) f i l q = go (allBelow n f) (λ k. allBelow-fails n f i k q) (decLt i n)
+  where
+    go : (b : Bool) → (i < n → b ≡ false) → Dec (i < n) → (b && f n) ≡ false
+    go b r (yes k) = rw (r k)
+    go true r (no k) = subst (λ j. f j ≡ false) (let e : i ≡ n = omega arith in e) q
+    go false r (no k) = refl
 
 -- ---- a claim of every number below n, one number after the other: first _ 1 (claim of 0) (first _ 0 (claim of 1) (none _))
 

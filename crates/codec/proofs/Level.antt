@@ -1,11 +1,10 @@
 -- The laws of a level's four bytes. In order: the two halves of `levelFrom`, `levelFrom` and `bitsOf` undo each other and give what is in range, and
 -- the subtraction from −1 by which the code gets from one half to the other. Assumes nothing.
-use mathlib.Core.Path.{_≡_, refl, ap}
-use mathlib.Core.Bool.{true, false, true≢false}
 use Prim.Native.Nat.{ℕ, zero, suc, _-_, _<_}
 use native.Mathlib.Nat.{zero-add}
-use native.Mathlib.Decide.{decLt}
 use native.Mathlib.Omega.{arith}
+use mathlib.Core.Path.{_≡_, refl, ap}
+use mathlib.Core.Bool.{true, false, true≢false}
 use lib.IntN.{ℤ, pos, negsuc, _-ℤ_}
 use lib.Signed.{mag, ltZ}
 use mir.Syntax.{Width}
@@ -32,22 +31,6 @@ pub bitsOf-lt : (z : ℤ) → FitsLevel z → bitsOf z < span 4
 unfolding bitsOf FitsLevel span
 bitsOf-lt (pos n) h = omega arith
 bitsOf-lt (negsuc n) h = omega arith
-
-pub bitsOf-levelFrom : (b : ℕ) → b < 4294967296 → bitsOf (levelFrom b) ≡ b
-unfolding bitsOf
-bitsOf-levelFrom b h = go (decLt b 2147483648)
-  where
-    go : Dec (b < 2147483648) → bitsOf (levelFrom b) ≡ b
-    go (yes l) = rw (levelFrom-low b l)
-    go (no l) = rw (levelFrom-high b l) (omega arith)
-
-pub levelFrom-fits : (b : ℕ) → b < 4294967296 → FitsLevel (levelFrom b)
-unfolding FitsLevel
-levelFrom-fits b h = go (decLt b 2147483648)
-  where
-    go : Dec (b < 2147483648) → FitsLevel (levelFrom b)
-    go (yes l) = rw (levelFrom-low b l) l
-    go (no l) = rw (levelFrom-high b l) (omega arith)
 
 -- ---- −1 − z, by which the code turns the half below 0 over
 

@@ -1,17 +1,16 @@
 -- The laws of a lent part. In order: its length, what a put or a load in the part is in the whole, what comes back to a caller that lent it,
 -- and what a part shows after something was done to it or to another. Assumes nothing.
-use mathlib.Core.Path.{_≡_, sym, ap, _∙_}
-use mathlib.Core.List.{List, _++_}
 use Prim.Native.Nat.{ℕ, zero, suc, _+_, _-_, _%_, _/_, _≤_, _<_}
-use native.Mathlib.Nat.{add-suc, add-assoc}
+use native.Mathlib.Nat.{add-suc}
 use native.Mathlib.Decide.{decLt}
 use native.Mathlib.Omega.{arith}
+use mathlib.Core.Path.{_≡_, sym, ap, _∙_}
+use mathlib.Core.List.{List, _++_}
 use lib.ListN.{length, getD, set, take, drop, length-drop}
 use lib.Seq.{length-take-le, take-at, drop-at, take-set-le, take-set-lt, drop-set-lt, drop-set-add, getD-take, getD-drop, ext-getD}
 use borrow.Rule.Slice.PartMut.{postOf, putMid, same-len-mid, put-same, take-put}
-use Rattle.codec.specs.Le.{load, put, Apart}
+use Rattle.codec.specs.Le.{put, Apart}
 use Rattle.codec.specs.Part.{partOf, onPart, Keeps}
-use Rattle.codec.proofs.Le.{load-ext}
 
 pub length-part : (off k : ℕ) (t : List ℕ) → off + k ≤ length t → length (partOf off k t) ≡ k
 length-part off k t h = length-take-le k (drop off t) (omega (arith, length-drop off t))
@@ -35,10 +34,6 @@ onPart-put off k t (suc n) j x b =
     let u = set t (off + j) (x % 256) in
     rw (part-set off k t j (x % 256) (omega arith), ← add-suc)
     (around-set off k t j (x % 256) (omega arith) (put n (partOf off k u) (suc j) (x / 256)) ∙ onPart-put off k u n (suc j) (x / 256) (omega arith))
-
-pub load-part : (off k : ℕ) (t : List ℕ) (n j : ℕ) → j + n ≤ k → load n (partOf off k t) j ≡ load n t (off + j)
-load-part off k t n j b =
-    load-ext n (partOf off k t) t j (off + j) (λ i q. getD-part off k t (j + i) (omega arith) ∙ ap (λ (m : ℕ). getD t m 0) (sym (add-assoc off j i)))
 
 -- ---- what a caller that lent `&mut t[off..off + k]` has when the part is back, where the callee did f to it
 

@@ -7,6 +7,7 @@ use mathlib.Core.Path.{_≡_, refl, ap, ap₂, _∙_, sym, subst}
 use mathlib.Core.List.{List, [], _∷_, _++_, tail, List·Memᴰ, List·Memᴰ·cases-cons, List·Memᴰ·not-nil}
 use mathlib.Core.Logic.{_⊎_, inl, inr}
 use lib.ListN.{length, getD}
+use lib.Seq.{ext-getD}
 use Rattle.codec.specs.Tabulate.{tabulate}
 
 module _ {ℓ} {A : Type ℓ} where
@@ -43,6 +44,10 @@ module _ {ℓ} {A : Type ℓ} where
   tab-tail (suc n) f g h =
       let less : suc n - 1 ≡ n = omega arith in
       ap (λ (k : ℕ). tabulate k g) less ∙ tab-ext n g (λ i. f (suc i)) (λ i l. h i (omega arith) ∙ ap f (add-one i))
+
+  -- a list of n elements that are f's is the one tabulated
+  pub tab-is : (n : ℕ) (f : ℕ → A) (l : List A) (d : A) → length l ≡ n → ((i : ℕ) → i < n → getD l i d ≡ f i) → l ≡ tabulate n f
+  tab-is n f l d q h = ext-getD d l (tabulate n f) (q ∙ sym (tab-length n f)) (λ i b. h i (omega arith) ∙ sym (tab-at n f d i (omega arith)))
 
   pub tab-none : (f : ℕ → A) → tabulate 0 f ≡ []
   unfolding tabulate

@@ -1,11 +1,15 @@
 -- Tests and choices: what holds of both sides of a choice holds of it, how a test is shown to pass, and tests joined in another order. What a passed
 -- test says is in mir.Facts.
 -- Assumes nothing.
-use Prim.Native.Nat.{ℕ, _-_}
+use Prim.Native.Nat.{ℕ, zero, suc}
 use mathlib.Core.Path.{_≡_, refl, subst, sym, ap, _∙_}
 use mathlib.Core.Bool.{Bool, true, false, cond, not, _&&_, _||_, and-assoc, and-comm}
+use mathlib.Core.List.{List, [], _∷_, _++_}
 use lib.Dec.{T, eqb, eqb-refl}
+use lib.ListN.{getD}
+use mir.Facts.{and-yes, yes-and}
 use borrow.Author.Tests.{not-true, not-false}
+use Rattle.codec.specs.Tests.{every, Hold, Passed}
 
 pub cond-elim {ℓ κ} : {A : Type ℓ} (P : A → Type κ) (b : Bool) {x y : A} → (T b → P x) → (T (not b) → P y) → P (cond b x y)
 cond-elim P true f g = f tt
@@ -87,3 +91,30 @@ module _ {ℓ} {A : Type ℓ} where
   cond-more f false b c d x y e q n = e
   cond-more f true true c d x y e q n = ap f (e ∙ ap (λ k. cond k (f x) x) (n tt)) ∙ ap (λ k. cond k (f x) x) (sym q)
   cond-more f true false c d x y e q n = e ∙ ap (λ k. cond k (f x) x) (sym q)
+
+-- ---- a list of tests
+
+pub every-yes : (bs : List Bool) → T (every bs) → Hold bs
+unfolding every
+every-yes [] t = tt
+every-yes (b ∷ bs) t = let both = and-yes b (every bs) t in (both .0, every-yes bs (both .1))
+
+pub yes-every : (bs : List Bool) → Hold bs → T (every bs)
+unfolding every
+yes-every [] h = tt
+yes-every (b ∷ bs) (f, h) = yes-and b (every bs) f (yes-every bs h)
+
+-- test k fails, so they do not all hold
+pub every-fails : (bs : List Bool) (k : ℕ) → getD bs k true ≡ false → every bs ≡ false
+unfolding every
+every-fails [] k e = absurd (let t : T false = subst T e tt in t)
+every-fails (b ∷ bs) zero e = rw e
+every-fails (true ∷ bs) (suc k) e = every-fails bs k e
+every-fails (false ∷ bs) (suc k) e = refl
+
+-- all but the last were passed, so the last decides
+pub every-last : (bs : List Bool) (b : Bool) → Passed bs → every (bs ++ (b ∷ [])) ≡ b
+unfolding every
+every-last [] true h = refl
+every-last [] false h = refl
+every-last (b ∷ bs) c (e, h) = rw (e, every-last bs c h)

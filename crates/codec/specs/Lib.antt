@@ -6,3 +6,4 @@ pub mod Part
 pub mod Fields
 pub mod Tabulate
 pub mod Below
+pub mod Tests

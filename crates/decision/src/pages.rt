@@ -34,7 +34,7 @@ pub fn begin(t: &[u8], s: u8, p: u8, count: u8, keys: [u8; 8]) -> Decided
         return answers::refused(17);
     }
     let vec = x.vec;
-    let page = answers::larger(lookup::heard(t, x.site, p), vec);
+    let page = lookup::heard(t, x.site, p).larger_of(vec);
     answers::kept(Answer::Done, s, keeping::begun(x, page, keys, count))
 }
 

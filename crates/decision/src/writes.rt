@@ -1,5 +1,4 @@
-// The decisions of the four events that write to nodes: CLOCK, BEAT, PUT and DELIVER. In order: the bytes of a thing, room, what is decided, and an
-// event each. Assumes nothing.
+// The decisions of the four events that write to nodes: CLOCK, BEAT, PUT and DELIVER. In order: the bytes of a part, room, and an event each.
 ghost use mathlib.Core.Path.{_≡_};
 ghost use Prim.Native.Nat.{_-_, _≤_, _<_};
 ghost use mathlib.Core.List.{[], _∷_};
@@ -7,19 +6,11 @@ ghost use lib.Dec.{T, ltb};
 ghost use lib.ListN.{length};
 ghost use Rattle.codec.specs.Le.{load};
 ghost use Rattle.codec.specs.Below.{allBelow};
-ghost use Rattle.vector.specs.Vec.{withEntry};
 ghost use Rattle.vector.specs.Entries.{entry};
-ghost use Rattle.protocol.specs.Record.{Update};
-ghost use Rattle.protocol.specs.State.{opened};
 ghost use Rattle.protocol.specs.Event.{CLOCK, BEAT, PUT, DELIVER};
-ghost use Rattle.protocol.specs.Needs.{putReady, frontUpdates};
-ghost use Rattle.protocol.specs.Change.{SetSession, Publish, Receive};
-ghost use Rattle.protocol.specs.Serve.{_and_, written};
-ghost use Rattle.protocol.specs.declared.Answer.the-variants.{Done, Stamped};
-ghost use Rattle.record.specs.Meaning.{asMessage};
+ghost use Rattle.protocol.specs.Needs.{putReady};
 ghost use Rattle.parts.specs.Node.{clockIn, heardIn, heldIn};
 ghost use Rattle.parts.specs.Channel.{waitIn};
-ghost use Rattle.parts.specs.Meaning.{asSession};
 ghost use Rattle.table.specs.Parts.{siteOf, nodeOf, channelOf};
 ghost use Rattle.table.specs.Decode.{decode};
 ghost use Rattle.lawful.specs.WellFormed.{wellFormed};
@@ -29,13 +20,9 @@ use crate::lookup;
 use outcome::Decided;
 use outcome::Effect;
 use outcome::answers;
-use outcome::keeping;
-use parts::Session;
 use parts::channels;
 use parts::nodes;
-use protocol::Answer;
-use record::Letter;
-use record::Message;
+use record::bytes;
 use vector::Vector;
 
 // The part of site m.
@@ -101,18 +88,6 @@ fn has_room(t: &[u8], m: u8, p: u8) -> bool
     all
 }
 
-// Done, and a node's clock or a heartbeat or nothing: no vector and no session stands beside such an effect.
-fn done(effect: Effect) -> Decided
-    ensures { λ r. ⌜ (r .answer ≡ Done) × (r .effect ≡ effect) ⌝ }
-{
-    Decided {
-        answer: Answer::Done,
-        effect,
-        carried: Vector::ZERO,
-        session: keeping::closed(),
-    }
-}
-
 // "An equal time is done."
 pub fn clock(t: &[u8], m: u8, p: u8, time: u64) -> Decided
     requires { ⌜ (length (now t) ≡ 57344) × T (wellFormed (now t)) × (m < load 1 (now t) 0) × (p < load 1 (now t) 1) ⌝ }
@@ -126,7 +101,7 @@ pub fn clock(t: &[u8], m: u8, p: u8, time: u64) -> Decided
         partition: p,
         time,
     };
-    done(effect)
+    answers::done(effect)
 }
 
 // "if the clock is greater than entry m": otherwise nothing is sent, and no room is asked for.
@@ -136,7 +111,7 @@ pub fn beat(t: &[u8], m: u8, p: u8) -> Decided
 {
     let stamp = nodes::clock(node(t, m, p));
     if stamp <= own(t, m, p) {
-        return done(Effect::Nothing);
+        return answers::done(Effect::Nothing);
     }
     if !has_room(t, m, p) {
         return answers::refused(21);
@@ -146,7 +121,7 @@ pub fn beat(t: &[u8], m: u8, p: u8) -> Decided
         partition: p,
         stamp,
     };
-    done(effect)
+    answers::done(effect)
 }
 
 // Whether node (m, p) may stamp a record of a session with vector v: "the node's clock is greater than every entry of the session's vector and greater
@@ -157,34 +132,6 @@ fn is_ready(t: &[u8], m: u8, p: u8, v: Vector) -> bool
 {
     let time = nodes::clock(node(t, m, p));
     (v.largest() < time) & (own(t, m, p) < time)
-}
-
-// "The record carries the session's vector as it was before"; then the session's own entry becomes the stamp.
-fn stored(s: u8, x: Session, p: u8, key: u8, quality: u8, level: i32, stamp: u64) -> Decided
-    requires { ⌜ x .site < 4 ⌝ }
-    ensures { λ r. ⌜ outcomeOf r ≡ (Stamped (x .site) stamp and Publish (x .site) p (Update (written (asSession x) key quality level stamp)) ∷ SetSession s (opened (x .site) (withEntry (asSession x .vec) (x .site) stamp) (asSession x .page)) ∷ []) ⌝ }
-{
-    let m = x.site;
-    let old = x.vec;
-    let message = Message::Update {
-        key,
-        source: m,
-        quality,
-        level,
-        stamp,
-    };
-    let vec = old.with_entry(m as usize, stamp);
-    Decided {
-        answer: Answer::Stamped { source: m, stamp },
-        effect: Effect::Put {
-            session: s,
-            site: m,
-            partition: p,
-            message,
-        },
-        carried: old,
-        session: keeping::with_vector(x, vec),
-    }
 }
 
 pub fn put(t: &[u8], s: u8, key: u8, quality: u8, level: i32) -> Decided
@@ -211,43 +158,7 @@ pub fn put(t: &[u8], s: u8, key: u8, quality: u8, level: i32) -> Decided
         return answers::refused(3);
     }
     let stamp = nodes::clock(node(t, m, p));
-    stored(s, x, p, key, quality, level, stamp)
-}
-
-// Whether the node that takes the letter in stores it.
-fn is_update(x: Letter) -> bool
-    ensures { λ r. ⌜ r ≡ frontUpdates (asMessage x ∷ []) ⌝ }
-{
-    let message = x.message;
-    match message {
-        Message::Update {
-            key: _,
-            source: _,
-            quality: _,
-            level: _,
-            stamp: _,
-        } => true,
-        Message::Heartbeat { stamp: _ } => false,
-    }
-}
-
-// The message leaves the channel from site i to node (m, p).
-fn taken(i: u8, m: u8, p: u8, x: Letter) -> Decided
-    ensures { λ r. ⌜ outcomeOf r ≡ (Done and Receive i m p (asMessage x) ∷ []) ⌝ }
-{
-    let message = x.message;
-    let carried = x.carried;
-    Decided {
-        answer: Answer::Done,
-        effect: Effect::Deliver {
-            from: i,
-            site: m,
-            partition: p,
-            message,
-        },
-        carried,
-        session: keeping::closed(),
-    }
+    answers::stored(s, x, p, key, quality, level, stamp)
 }
 
 pub fn deliver(t: &[u8], i: u8, m: u8, p: u8) -> Decided
@@ -260,8 +171,8 @@ pub fn deliver(t: &[u8], i: u8, m: u8, p: u8) -> Decided
         return answers::refused(20);
     }
     let x = channels::first(c);
-    if is_update(x) & !has_slot(t, m, p) {
+    if bytes::is_update(x) & !has_slot(t, m, p) {
         return answers::refused(22);
     }
-    taken(i, m, p, x)
+    answers::taken(i, m, p, x)
 }

@@ -12,10 +12,9 @@ use mir.Facts.{leb-yes}
 use Rattle.codec.specs.Le.{load}
 use Rattle.codec.specs.Below.{allBelow}
 use Rattle.codec.specs.Tabulate.{tabulate}
-use Rattle.codec.proofs.Below.{all-below, allBelow-front}
+use Rattle.codec.proofs.Below.{all-below, allBelow-front, allBelow-ext}
 use Rattle.codec.proofs.Tests.{yes-or-r, yes-eqb, same-test, and-behind}
 use Rattle.codec.proofs.Tabulate.{tab-length, tab-at}
-use Rattle.vector.proofs.Entries.{allBelow-ext}
 use Rattle.protocol.specs.Needs.{keysLawful}
 use Rattle.event.specs.Fields.{restZero}
 use Rattle.event.specs.Event.{keysOf}

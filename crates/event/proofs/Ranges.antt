@@ -11,9 +11,8 @@ use mir.Facts.{and-yes, ltb-yes}
 use Rattle.codec.specs.Le.{load}
 use Rattle.codec.specs.Below.{allBelow}
 use Rattle.codec.proofs.Tabulate.{tab-at}
-use Rattle.codec.proofs.Below.{first, none, allBelow-and}
+use Rattle.codec.proofs.Below.{first, none, allBelow-and, allBelow-ext}
 use Rattle.codec.proofs.Tests.{and-turn}
-use Rattle.vector.proofs.Entries.{allBelow-ext}
 use Rattle.protocol.specs.Record.{Setting}
 use Rattle.protocol.specs.Needs.{ranges}
 use Rattle.event.specs.Fields.{uses, zeroAt, startOf, sizeOf, restZero, unusedZero}

@@ -9,7 +9,7 @@ use lib.Dec.{T, leb, ltb}
 use lib.ListN.{length}
 use mir.Facts.{and-yes, yes-and, ltb-yes, leb-yes, yes-ltb, yes-leb}
 use Rattle.codec.proofs.Tests.{implies, yes-implies}
-use Rattle.vector.proofs.Short.{Short}
+use Rattle.vector.proofs.Entries.{Short}
 use Rattle.protocol.specs.Record.{Setting, Rec, Msg}
 use Rattle.protocol.specs.State.{Mark, Page, Session, State}
 use Rattle.protocol.specs.Needs.{keysLawful, distinct}

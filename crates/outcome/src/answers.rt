@@ -1,14 +1,17 @@
-// The parts that decisions are made of, by value. In order: what a record that was found answers, vectors that are raised, a refusal, and a session
-// that is kept. Assumes nothing.
+// Answers, and the decisions that are made of them. In order: the answer that shows a search's result, and the vector raised by it; then a refusal, a session that is
+// kept, an effect without a vector or a session, a record that is stored, a message that is taken.
 ghost use mathlib.Core.Path.{_≡_};
 ghost use mathlib.Core.List.{[], _∷_};
 ghost use Prim.Native.Nat.{_<_};
-ghost use Rattle.vector.specs.Vec.{larger, raised};
+ghost use Rattle.vector.specs.Vec.{withEntry};
 ghost use Rattle.vector.specs.Entries.{entry};
-ghost use Rattle.protocol.specs.Record.{raisedBy};
+ghost use Rattle.protocol.specs.Record.{Update, raisedBy};
+ghost use Rattle.protocol.specs.State.{opened};
+ghost use Rattle.protocol.specs.Change.{Publish, Receive, SetSession};
+ghost use Rattle.protocol.specs.Serve.{written, _and_};
+ghost use Rattle.protocol.specs.declared.Answer.the-variants.{Done, Stamped};
 ghost use Rattle.protocol.specs.Event.{plain, shown};
-ghost use Rattle.protocol.specs.Change.{SetSession};
-ghost use Rattle.protocol.specs.Serve.{_and_};
+ghost use Rattle.record.specs.Meaning.{asMessage};
 ghost use Rattle.parts.specs.Meaning.{asSession};
 ghost use Rattle.search.specs.Found.{foundOf};
 ghost use Rattle.outcome.specs.Decided.{outcomeOf};
@@ -18,6 +21,8 @@ use crate::keeping;
 use parts::Session;
 use protocol::Answer;
 use protocol::Refusal;
+use record::Letter;
+use record::Message;
 use search::Found;
 use vector::Vector;
 
@@ -37,22 +42,7 @@ pub fn shown(x: Found) -> Answer
     }
 }
 
-// The entrywise larger of the two.
-pub fn larger(u: Vector, v: Vector) -> Vector
-    ensures { λ r. ⌜ entry (r .e) ≡ larger (entry (u .e)) (entry (v .e)) ⌝ }
-{
-    u.larger_of(v)
-}
-
-// What the vector becomes by a record.
-pub fn raised(v: Vector, carried: Vector, source: u8, stamp: u64) -> Vector
-    requires { ⌜ source < 4 ⌝ }
-    ensures { λ r. ⌜ entry (r .e) ≡ raised (entry (v .e)) (entry (carried .e)) source stamp ⌝ }
-{
-    v.raised(carried, source as usize, stamp)
-}
-
-// And by what was found.
+// The vector, raised by what a search gave: unchanged if nothing was found.
 pub fn raised_by(v: Vector, x: Found) -> Vector
     requires { ⌜ x .reading .source < 4 ⌝ }
     ensures { λ r. ⌜ entry (r .e) ≡ raisedBy (entry (v .e)) (foundOf x) ⌝ }
@@ -62,7 +52,7 @@ pub fn raised_by(v: Vector, x: Found) -> Vector
     }
     let r = x.reading;
     let carried = r.carried;
-    raised(v, carried, r.source, r.stamp)
+    v.raised(carried, r.source as usize, r.stamp)
 }
 
 // "Every other answer has zeros after the number": a refusal, or the wait 3, and nothing changes.
@@ -91,5 +81,64 @@ pub fn kept(answer: Answer, s: u8, x: Session) -> Decided
         effect: Effect::Keep { session: s },
         carried: Vector::ZERO,
         session: x,
+    }
+}
+
+// Done, and a node's clock or a heartbeat or nothing: no vector and no session stands beside such an effect.
+pub fn done(effect: Effect) -> Decided
+    ensures { λ r. ⌜ (r .answer ≡ Done) × (r .effect ≡ effect) ⌝ }
+{
+    Decided {
+        answer: Answer::Done,
+        effect,
+        carried: Vector::ZERO,
+        session: keeping::closed(),
+    }
+}
+
+// "The record carries the session's vector as it was before"; then the session's own entry becomes the stamp.
+pub fn stored(s: u8, x: Session, p: u8, key: u8, quality: u8, level: i32, stamp: u64) -> Decided
+    requires { ⌜ x .site < 4 ⌝ }
+    ensures { λ r. ⌜ outcomeOf r ≡ (Stamped (x .site) stamp and Publish (x .site) p (Update (written (asSession x) key quality level stamp)) ∷ SetSession s (opened (x .site) (withEntry (asSession x .vec) (x .site) stamp) (asSession x .page)) ∷ []) ⌝ }
+{
+    let m = x.site;
+    let old = x.vec;
+    let message = Message::Update {
+        key,
+        source: m,
+        quality,
+        level,
+        stamp,
+    };
+    let vec = old.with_entry(m as usize, stamp);
+    Decided {
+        answer: Answer::Stamped { source: m, stamp },
+        effect: Effect::Put {
+            session: s,
+            site: m,
+            partition: p,
+            message,
+        },
+        carried: old,
+        session: keeping::with_vector(x, vec),
+    }
+}
+
+// The message leaves the channel from site i to node (m, p).
+pub fn taken(i: u8, m: u8, p: u8, x: Letter) -> Decided
+    ensures { λ r. ⌜ outcomeOf r ≡ (Done and Receive i m p (asMessage x) ∷ []) ⌝ }
+{
+    let message = x.message;
+    let carried = x.carried;
+    Decided {
+        answer: Answer::Done,
+        effect: Effect::Deliver {
+            from: i,
+            site: m,
+            partition: p,
+            message,
+        },
+        carried,
+        session: keeping::closed(),
     }
 }

@@ -15,16 +15,17 @@ use vector::Vector;
 pub fn closed() -> Session
     ensures { λ r. ⌜ asSession r ≡ closed ⌝ }
 {
+    let zero = Vector::zero();
     Session {
         open: false,
         site: 0,
-        vec: Vector::ZERO,
+        vec: zero,
         paged: false,
         count: 0,
         keys: [0; 8],
         marks: [false; 8],
-        page: Vector::ZERO,
-        gathered: Vector::ZERO,
+        page: zero,
+        gathered: zero,
     }
 }
 

@@ -9,7 +9,6 @@ ghost use Rattle.protocol.specs.State.{opened};
 ghost use Rattle.parts.specs.Meaning.{asSession};
 ghost use Rattle.search.specs.Found.{foundOf};
 ghost use Rattle.outcome.specs.Raised.{raisedSession};
-use crate::answers;
 use parts::Session;
 use search::Found;
 use vector::Vector;
@@ -21,7 +20,7 @@ fn raised(x: Session, carried: Vector, source: u8, stamp: u64) -> Session
 {
     let mut y = x;
     let vec = x.vec;
-    y.vec = answers::raised(vec, carried, source, stamp);
+    y.vec = vec.raised(carried, source as usize, stamp);
     y
 }
 

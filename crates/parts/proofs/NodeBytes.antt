@@ -12,9 +12,9 @@ use borrow.Author.Tests.{lt-ltb, eq-eqb, ne-eqb}
 use Rattle.codec.specs.Le.{load, put, span, Bytes}
 use Rattle.codec.proofs.Le.{length-put, load-put, load-put-other, load-lt}
 use Rattle.codec.proofs.Tabulate.{tab-ext, tab-more}
-use Rattle.vector.specs.Vec.{Vec, width, withEntry, atLeast}
+use Rattle.vector.specs.Vec.{width, withEntry, atLeast}
 use Rattle.vector.specs.Entries.{loadVec}
-use Rattle.vector.proofs.Entries.{loadVec-below}
+use Rattle.vector.proofs.Entries.{with-later, loadVec-below}
 use Rattle.protocol.specs.Record.{Rec, Msg, Update, Beat, stampIn, recordsIn}
 use Rattle.record.specs.RecordBytes.{recordAt, putRecord}
 use Rattle.record.specs.Fits.{FitsRec, FitsMsg}
@@ -124,14 +124,6 @@ entry-heard : (n : List ℕ) (i : ℕ) → i < 4 → heardIn n i ≡ load 8 n (8
 unfolding heardIn width
 entry-heard n i h = loadVec-below n 8 i h
 
-entry-raised : (v : Vec) (m u t : ℕ) → v m ≡ u → withEntry v m (max u t) ≡ atLeast v m t
-unfolding withEntry atLeast
-entry-raised v m u t e = fun-ext (λ i. go i (ℕ-discrete i m))
-  where
-    go : (i : ℕ) → Dec (i ≡ m) → cond (eqb i m) (max u t) (v i) ≡ cond (eqb i m) (max (v i) t) (v i)
-    go i (yes q) = rw (q, ← e)
-    go i (no q) = rw (ne-eqb i m q)
-
 -- a stamp in entry m, and the message stored
 module _ (m v : ℕ) (x : Msg) (n : List ℕ) (l : length n ≡ 1856) (h : m < 4) where
   clock-message : clockIn (stored x (put 8 n (8 + 8 * m) v)) ≡ clockIn n
@@ -167,7 +159,7 @@ module _ (i : ℕ) (x : Msg) (n : List ℕ) (l : length n ≡ 1856) (h : i < 4) 
   unfolding received
   heard-received bytes small =
       heard-message i (max (load 8 n (8 + 8 * i)) (stampIn x)) x n l h (omega (arith, load-lt 8 n (8 + 8 * i) bytes, stamp-fits x small))
-      ∙ entry-raised (heardIn n) i (load 8 n (8 + 8 * i)) (stampIn x) (entry-heard n i h)
+      ∙ with-later (heardIn n) i (load 8 n (8 + 8 * i)) (stampIn x) (entry-heard n i h)
 
   pub store-received : FitsMsg x → Room x n → storeIn (received i x n) ≡ storeIn n ++ recordsIn x
   unfolding received

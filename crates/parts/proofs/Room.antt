@@ -1,17 +1,13 @@
 -- Room for a message: a free place is room for any; room stays when what a node has heard changes. Assumes nothing.
 use Prim.Native.Nat.{ℕ, _+_, _*_, _<_}
+use native.Mathlib.Omega.{arith}
 use mathlib.Core.Path.{_≡_}
 use mathlib.Core.List.{List}
-use native.Mathlib.Omega.{arith}
 use Rattle.codec.specs.Le.{put}
 use Rattle.codec.proofs.Le.{load-put-other}
 use Rattle.protocol.specs.Record.{Msg, Update, Beat}
 use Rattle.parts.specs.Node.{heldIn}
 use Rattle.parts.specs.Room.{Room}
-
-pub room-held : (x : Msg) (n : List ℕ) → heldIn n < 32 → Room x n
-room-held (Update r) n h = h
-room-held (Beat t) n h = tt
 
 held-heard : (n : List ℕ) (m t : ℕ) → m < 4 → heldIn (put 8 n (8 + 8 * m) t) ≡ heldIn n
 unfolding heldIn

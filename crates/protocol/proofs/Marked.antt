@@ -5,8 +5,8 @@ use mathlib.Core.Bool.{true, false}
 use mathlib.Core.List.{[], _∷_}
 use mathlib.Core.Option.{some}
 use lib.IntN.{pos}
-use Rattle.vector.specs.Vec.{Vec, raised}
-use Rattle.vector.specs.Entries.{firstOf, entries}
+use Rattle.codec.specs.Tabulate.{tabulate}
+use Rattle.vector.specs.Vec.{Vec, width, raised}
 use Rattle.protocol.specs.Record.{Setting, partOf, Rec, newer, newest, fitsPage}
 use Rattle.protocol.specs.Needs.{getReady, putReady, readReady}
 use Rattle.protocol.specs.Serve.{begun}
@@ -31,12 +31,12 @@ pub record Marked : Type 0 where
   pub P4 : readReady (vec 5 0 7 0) (vec 4 0 8 0) ≡ false
   pub P5 : (putReady (vec 100 3 0 0) 90 100 ≡ false) × (putReady (vec 100 3 0 0) 90 101 ≡ true)
   pub P6 : putReady (vec 100 3 0 0) 101 101 ≡ false
-  pub P7 : entries (raised (vec 3 9 0 0) (vec 5 2 0 0) 1 12) ≡ 5 ∷ 12 ∷ 0 ∷ 0 ∷ []
-  pub P8 : entries (begun (vec 12 10 0 0) (vec 9 11 0 0) [] .vec) ≡ 12 ∷ 11 ∷ 0 ∷ 0 ∷ []
+  pub P7 : tabulate width (raised (vec 3 9 0 0) (vec 5 2 0 0) 1 12) ≡ 5 ∷ 12 ∷ 0 ∷ 0 ∷ []
+  pub P8 : tabulate width (begun (vec 12 10 0 0) (vec 9 11 0 0) [] .vec) ≡ 12 ∷ 11 ∷ 0 ∷ 0 ∷ []
   pub P9 : newest (four 4) (fitsPage 0 (vec 20 10 0 0)) (rec 20 0 (vec 0 15 0 0) ∷ rec 18 1 (vec 0 0 0 0) ∷ []) ≡ some (rec 18 1 (vec 0 0 0 0))
   pub P10 : fitsPage 0 (vec 10 4 0 0) (rec 11 0 (vec 10 4 0 0)) ≡ true
   pub P11 : (partOf (four 4) 63 ≡ 3) × (partOf (four 3) 63 ≡ 0)
 
 pub marked : Marked
-unfolding computing vec rec four firstOf entries
+unfolding computing vec rec four tabulate
 marked = record { P1 = refl; P2 = refl; P3 = (refl, refl); P4 = refl; P5 = (refl, refl); P6 = refl; P7 = refl; P8 = refl; P9 = refl; P10 = refl; P11 = (refl, refl) }

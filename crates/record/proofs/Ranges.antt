@@ -4,22 +4,21 @@ use Prim.Native.Nat.{ℕ, _^_, _≤_, _<_}
 use native.Mathlib.Decide.{decLt}
 use native.Mathlib.Omega.{arith}
 use mathlib.Core.Path.{_≡_, refl}
-use mathlib.Core.Bool.{cond, _&&_}
+use mathlib.Core.Bool.{cond}
 use lib.Dec.{T, ltb, eqb}
 use lib.IntN.{ℤ, pos, negsuc}
 use mir.Facts.{and-yes, yes-and, ltb-yes, ltb-no, leb-yes, eqb-yes, yes-ltb, yes-eqb}
 use borrow.Author.Tests.{lt-ltb, le-ltb}
 use Rattle.codec.specs.Le.{span}
 use Rattle.codec.specs.Level.{FitsLevel}
-use Rattle.codec.proofs.Tests.{cond-elim}
+use Rattle.codec.proofs.Tests.{cond-elim, every-yes, yes-every}
 use Rattle.codec.proofs.Below.{all-below-at, all-below}
 use Rattle.vector.specs.Vec.{Vec, width, zeros, withEntry, atLeast, larger, raised}
-use Rattle.vector.proofs.Short.{Short}
+use Rattle.vector.proofs.Entries.{Short}
 use Rattle.protocol.specs.Record.{Setting, partOf, Rec, Msg, Update, Beat, stampIn}
 use Rattle.protocol.specs.Needs.{levelLawful}
-use Rattle.protocol.proofs.Marked.{vec}
 use Rattle.record.specs.Fits.{FitsVec, FitsRec, FitsMsg}
-use Rattle.record.specs.Ranges.{timeLawful, vecLawful, recordLawful, messageLawful}
+use Rattle.record.specs.Ranges.{fieldTests, recordInRange, timeLawful, vecLawful, recordLawful, messageLawful}
 
 -- ---- a time's bytes
 
@@ -110,41 +109,26 @@ pub record LawfulRec (c : Setting) (p : ℕ) (r : Rec) : Type 0 where
 
 module _ (c : Setting) (p : ℕ) (r : Rec) where
   pub record-facts : T (recordLawful c p r) → Short (r .carried) → LawfulRec c p r
-  unfolding recordLawful timeLawful
+  unfolding recordLawful recordInRange timeLawful
   record-facts t short =
-      let place = ltb (r .id .key) 64 && eqb (partOf c (r .id .key)) p in
-      let source = ltb (r .id .source) (c .sites) in
-      let quality = ltb (r .quality) 3 in
-      let level = levelLawful (r .level) in
-      let stamp = ltb (r .id .stamp) (2 ^ 48) in
-      let vec = vecLawful c (r .carried) in
-      let a = and-yes place (source && (quality && (level && (stamp && vec)))) t in
-      let b = and-yes (ltb (r .id .key) 64) (eqb (partOf c (r .id .key)) p) (a .0) in
-      let d = and-yes source (quality && (level && (stamp && vec))) (a .1) in
-      let e = and-yes quality (level && (stamp && vec)) (d .1) in
-      let f = and-yes level (stamp && vec) (e .1) in
-      let g = and-yes stamp vec (f .1) in
+      let both = and-yes (eqb (partOf c (r .id .key)) p) (recordInRange c r) t in
+      let (key, (source, (quality, (level, (stamp, (carried, _)))))) = every-yes (fieldTests c r) (both .1) in
       record {
-        key = ltb-yes (b .0);
-        part = eqb-yes (b .1);
-        source = ltb-yes (d .0);
-        quality = ltb-yes (e .0);
-        level = f .0;
-        stamp = ltb-yes (g .0);
-        carried = vec-facts c (r .carried) (g .1) short;
+        key = ltb-yes key;
+        part = eqb-yes (both .0);
+        source = ltb-yes source;
+        quality = ltb-yes quality;
+        level = level;
+        stamp = ltb-yes stamp;
+        carried = vec-facts c (r .carried) carried short;
       }
 
   pub record-lawful : LawfulRec c p r → T (recordLawful c p r)
-  unfolding recordLawful timeLawful
+  unfolding recordLawful recordInRange timeLawful
   record-lawful R =
-      let quality = ltb (r .quality) 3 in
-      let stamp = ltb (r .id .stamp) (2 ^ 48) in
-      let vec = vecLawful c (r .carried) in
-      yes-and (ltb (r .id .key) 64 && eqb (partOf c (r .id .key)) p) (ltb (r .id .source) (c .sites) && (quality && (levelLawful (r .level) && (stamp && vec))))
-      (yes-and (ltb (r .id .key) 64) (eqb (partOf c (r .id .key)) p) (yes-ltb (R .key)) (yes-eqb (R .part)))
-      (yes-and (ltb (r .id .source) (c .sites)) (quality && (levelLawful (r .level) && (stamp && vec))) (yes-ltb (R .source))
-      (yes-and quality (levelLawful (r .level) && (stamp && vec)) (yes-ltb (R .quality))
-      (yes-and (levelLawful (r .level)) (stamp && vec) (R .level) (yes-and stamp vec (yes-ltb (R .stamp)) (vec-lawful c (r .carried) (R .carried))))))
+      yes-and (eqb (partOf c (r .id .key)) p) (recordInRange c r) (yes-eqb (R .part))
+      (yes-every (fieldTests c r)
+      (yes-ltb (R .key), (yes-ltb (R .source), (yes-ltb (R .quality), (R .level, (yes-ltb (R .stamp), (vec-lawful c (r .carried) (R .carried), tt)))))))
 
   pub record-fits : c .sites ≤ 4 → LawfulRec c p r → FitsRec r
   record-fits few R = record {

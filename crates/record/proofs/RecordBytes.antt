@@ -147,14 +147,6 @@ load-putMessage-other b at m (Beat t) = load-putKind-other b at 2 (beat m t)
 
 -- a record and a message elsewhere
 
-pub record-elsewhere : (b : List ℕ) (at : ℕ) (r : Rec) (j : ℕ) → Apart j 48 at 48 → recordAt (putRecord b at r) j ≡ recordAt b j
-record-elsewhere b at r j o =
-    record-ext (putRecord b at r) b j (λ w i p q. load-putRecord-other b at r w i (λ k u v x y. o k (omega arith) (omega arith) x y))
-
-pub message-elsewhere : (b : List ℕ) (at m : ℕ) (x : Msg) (j : ℕ) → Apart j 48 at 48 → messageAt (putMessage b at m x) j ≡ messageAt b j
-message-elsewhere b at m x j o =
-    message-ext (putMessage b at m x) b j (λ w i p q. load-putMessage-other b at m x w i (λ k u v y z. o k (omega arith) (omega arith) y z))
-
 -- and at their place
 
 pub record-putRecord : (b : List ℕ) (at : ℕ) (r : Rec) → at + 48 ≤ length b → FitsRec r → recordAt (putRecord b at r) at ≡ r

@@ -5,16 +5,17 @@ use native.Mathlib.Decide.{decLt}
 use native.Mathlib.Omega.{arith}
 use mathlib.Core.Path.{_≡_, sym, ap, subst}
 use mathlib.Core.Bool.{Bool, _&&_, _||_}
-use mathlib.Core.List.{List}
+use mathlib.Core.List.{List, [], _∷_}
 use lib.Dec.{T, eqb}
 use lib.IntN.{pos}
 use lib.ListN.{length}
 use mir.Facts.{yes-and, yes-eqb, and-yes}
+use Rattle.codec.specs.Tests.{every}
 use Rattle.codec.specs.Le.{load}
 use Rattle.codec.specs.Level.{levelFrom}
 use Rattle.codec.specs.Below.{allBelow}
+use Rattle.codec.proofs.Tests.{yes-every, yes-or-l, yes-or-r, cond-elim}
 use Rattle.codec.proofs.Level.{levelFrom-low, levelFrom-high}
-use Rattle.codec.proofs.Tests.{yes-or-l, yes-or-r, cond-elim}
 use Rattle.codec.proofs.Below.{all-below}
 use Rattle.vector.specs.Vec.{width, zeros}
 use Rattle.vector.specs.Entries.{loadVec}
@@ -45,7 +46,7 @@ beat-formed-ext i s t at e =
     let quality = e 1 (at + 2) (omega arith) (omega arith) in
     let level = e 4 (at + 4) (omega arith) (omega arith) in
     let vec = loadVec-ext s t (at + 16) (λ k b. e 8 (at + 16 + 8 * k) (omega arith) (omega arith)) in
-    λ z. eqb (key z) 0 && (eqb (source z) i && (eqb (quality z) 0 && (eqb (level z) 0 && allBelow width (λ k. eqb (vec z k) 0))))
+    λ z. every (eqb (key z) 0 ∷ eqb (source z) i ∷ eqb (quality z) 0 ∷ eqb (level z) 0 ∷ allBelow width (λ k. eqb (vec z k) 0) ∷ [])
 
 pub message-formed-ext : (c : Setting) (i p : ℕ) (s t : List ℕ) (at : ℕ) → Same s t at → messageFormed c i p s at ≡ messageFormed c i p t at
 unfolding messageFormed
@@ -79,14 +80,17 @@ beat i t = record { id = record { key = 0; source = i; stamp = t }; quality = 0;
 beat-formed : (i t : ℕ) (b : List ℕ) (at : ℕ) → recordAt b at ≡ beat i t → T (beatFormed i b at)
 unfolding beatFormed recordAt zeros
 beat-formed i t b at e =
-    let vec = allBelow width (λ k. eqb (loadVec b (at + 16) k) 0) in
-    let level = eqb (load 4 b (at + 4)) 0 in
-    let quality = eqb (load 1 b (at + 2)) 0 in
-    yes-and (eqb (load 1 b at) 0) (eqb (load 1 b (at + 1)) i && (quality && (level && vec))) (yes-eqb (ap (λ r. r .id .key) e))
-    (yes-and (eqb (load 1 b (at + 1)) i) (quality && (level && vec)) (yes-eqb (ap (λ r. r .id .source) e))
-    (yes-and quality (level && vec) (yes-eqb (ap (λ r. r .quality) e))
-    (yes-and level vec (yes-eqb (level-zero (load 4 b (at + 4)) (ap (λ r. r .level) e)))
-    (all-below width (λ k. eqb (loadVec b (at + 16) k) 0) (λ k h. yes-eqb (ap (λ r. r .carried k) e))))))
+    yes-every
+    (eqb (load 1 b at) 0 ∷ eqb (load 1 b (at + 1)) i ∷ eqb (load 1 b (at + 2)) 0 ∷ eqb (load 4 b (at + 4)) 0 ∷ allBelow width (λ k. eqb (loadVec b (at + 16) k) 0) ∷ []) (
+      yes-eqb (ap (λ r. r .id .key) e),
+      (
+        yes-eqb (ap (λ r. r .id .source) e),
+        (
+          yes-eqb (ap (λ r. r .quality) e),
+          (yes-eqb (level-zero (load 4 b (at + 4)) (ap (λ r. r .level) e)), (all-below width (λ k. eqb (loadVec b (at + 16) k) 0) (λ k h. yes-eqb (ap (λ r. r .carried k) e)), tt)),
+        ),
+      ),
+    )
 
 beat-fits : (c : Setting) (i t : ℕ) → c .sites ≤ 4 → i < 4 → t < 2 ^ 48 → FitsRec (beat i t)
 beat-fits c i t few h g = record {

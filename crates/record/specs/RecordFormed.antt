@@ -1,10 +1,11 @@
 -- When the bytes of a record and of a message are well formed.
 use Prim.Native.Nat.{ℕ, _+_}
 use mathlib.Core.Bool.{Bool, _&&_, _||_}
-use mathlib.Core.List.{List}
+use mathlib.Core.List.{List, [], _∷_}
 use lib.Dec.{eqb}
 use Rattle.codec.specs.Le.{load}
 use Rattle.codec.specs.Below.{allBelow}
+use Rattle.codec.specs.Tests.{every}
 use Rattle.vector.specs.Vec.{width}
 use Rattle.vector.specs.Entries.{loadVec}
 use Rattle.protocol.specs.Record.{Setting}
@@ -17,8 +18,13 @@ recordFormed c p n at = eqb (load 1 n (at + 3)) 1 && recordLawful c p (recordAt 
 
 -- "A heartbeat has key, quality, level and vector zero", and its channel's source
 unfoldable pub beatFormed : (i : ℕ) → List ℕ → (at : ℕ) → Bool
-beatFormed i b at =
-    eqb (load 1 b at) 0 && (eqb (load 1 b (at + 1)) i && (eqb (load 1 b (at + 2)) 0 && (eqb (load 4 b (at + 4)) 0 && allBelow width (λ e. eqb (loadVec b (at + 16) e) 0))))
+beatFormed i b at = every
+    (eqb (load 1 b at) 0
+    ∷ eqb (load 1 b (at + 1)) i
+    ∷ eqb (load 1 b (at + 2)) 0
+    ∷ eqb (load 4 b (at + 4)) 0
+    ∷ allBelow width (λ e. eqb (loadVec b (at + 16) e) 0)
+    ∷ [])
 
 -- a message in use of the channel from site i at partition p: "a lawful kind"
 unfoldable pub messageFormed : Setting → (i p : ℕ) → List ℕ → (at : ℕ) → Bool

@@ -1,12 +1,14 @@
 // "A record, and an update in transit, is 48 bytes, little-endian": a record and a message at a place of the bytes, read and written.
-// In order: reading, a message's stamp, writing. Assumes nothing.
+// In order: reading, a letter's stamp and kind, writing.
 ghost use mathlib.Core.Path.{_≡_};
 ghost use Prim.Native.Nat.{_+_, _≤_};
 ghost use lib.ListN.{length};
 ghost use Rattle.vector.specs.Entries.{entry};
 ghost use Rattle.protocol.specs.Record.{stampIn};
+ghost use Rattle.protocol.specs.Needs.{frontUpdates};
 ghost use Rattle.record.specs.RecordBytes.{recordAt, messageAt, putFields, putMessage};
 ghost use Rattle.record.specs.Meaning.{asRecord, asMessage};
+ghost use mathlib.Core.List.{[], _∷_};
 use crate::Letter;
 use crate::Message;
 use crate::Record;
@@ -77,6 +79,23 @@ pub fn stamp(x: Letter) -> u64
             stamp,
         } => stamp,
         Message::Heartbeat { stamp } => stamp,
+    }
+}
+
+// Whether the letter is an update; only updates are stored.
+pub fn is_update(x: Letter) -> bool
+    ensures { λ r. ⌜ r ≡ frontUpdates (asMessage x ∷ []) ⌝ }
+{
+    let message = x.message;
+    match message {
+        Message::Update {
+            key: _,
+            source: _,
+            quality: _,
+            level: _,
+            stamp: _,
+        } => true,
+        Message::Heartbeat { stamp: _ } => false,
     }
 }
 

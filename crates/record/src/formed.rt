@@ -1,26 +1,22 @@
 // "each record and message in use has a lawful kind, its channel's source (for a message) or an existing source (for a record), and, save in a
-// heartbeat with its zeros, a key of its partition, and level and quality in range". In order: a record, a stored one,
-// an update, a heartbeat, a message. Assumes nothing.
+// heartbeat with its zeros, a key of its partition, and level and quality in range". In order: a record's fields, a record of a partition, a stored
+// record, an update, a heartbeat, a message.
 ghost use mathlib.Core.Path.{_≡_};
-ghost use Prim.Native.Nat.{_+_, _≤_, _<_};
+ghost use Prim.Native.Nat.{ℕ, _+_, _≤_, _<_};
 ghost use lib.ListN.{length};
 ghost use Rattle.protocol.specs.Record.{Update};
 ghost use Rattle.record.specs.RecordBytes.{recordAt};
-ghost use Rattle.record.specs.Ranges.{recordLawful, messageLawful};
+ghost use Rattle.record.specs.Ranges.{recordInRange, recordLawful, messageLawful};
 ghost use Rattle.record.specs.RecordFormed.{recordFormed, beatFormed, messageFormed};
 use crate::times;
 use protocol::limits;
 
-// The record at `at`, of partition p. Each field is loaded where it is tested, so that a lawful one costs one comparison.
-pub fn record_lawful(b: &[u8], at: usize, sites: u8, parts: u8, p: u8) -> bool
-    requires { ⌜ (at + 48 ≤ length (now b)) × (0 < parts) ⌝ }
-    ensures { λ r. ⌜ r ≡ recordLawful (record { sites = sites; parts = parts }) p (recordAt (now (b .entry)) at) ⌝ }
+// The fields of the record at `at`. Each is loaded where it is tested, so that a lawful one costs one comparison.
+pub fn record_in_range(b: &[u8], at: usize, sites: u8) -> bool
+    requires { ⌜ at + 48 ≤ length (now b) ⌝ }
+    ensures { λ r. ⌜ ((parts : ℕ) → r ≡ recordInRange (record { sites = sites; parts = parts }) (recordAt (now (b .entry)) at)) ⌝ }
 {
-    let key = codec::load_u8(b, at);
-    if 64 <= key {
-        return false;
-    }
-    if limits::partition_of(key, parts) != p {
+    if 64 <= codec::load_u8(b, at) {
         return false;
     }
     if sites <= codec::load_u8(b, at + 1) {
@@ -36,6 +32,17 @@ pub fn record_lawful(b: &[u8], at: usize, sites: u8, parts: u8, p: u8) -> bool
         return false;
     }
     times::vector_formed(b, at + 16, sites)
+}
+
+// The record at `at`, of partition p.
+pub fn record_lawful(b: &[u8], at: usize, sites: u8, parts: u8, p: u8) -> bool
+    requires { ⌜ (at + 48 ≤ length (now b)) × (0 < parts) ⌝ }
+    ensures { λ r. ⌜ r ≡ recordLawful (record { sites = sites; parts = parts }) p (recordAt (now (b .entry)) at) ⌝ }
+{
+    if limits::partition_of(codec::load_u8(b, at), parts) != p {
+        return false;
+    }
+    record_in_range(b, at, sites)
 }
 
 // "A stored record has kind 1"

@@ -14,7 +14,7 @@ use lib.Seq.{getD-take, getD-drop}
 use mir.Syntax.{w8}
 use mir.Val.{Fits}
 use mir.Facts.{fits-lit, and-yes, yes-and, and-no, ltb-yes, eqb-yes, eqb-no}
-use borrow.Author.Tests.{lt-ltb, le-ltb}
+use borrow.Author.Tests.{lt-ltb}
 use Rattle.codec.specs.Le.{load, Bytes, Apart}
 use Rattle.codec.specs.Part.{partOf, onPart, Keeps}
 use Rattle.codec.proofs.Le.{load-ext}
@@ -55,10 +55,6 @@ pub session-is : (t : List ℕ) (s : ℕ) → s < 16 → sessionOf t s ≡ partO
 unfolding sessionOf
 session-is t s h = rw (lt-ltb s 16 h)
 
-pub session-none : (t : List ℕ) (s : ℕ) → 16 ≤ s → sessionOf t s ≡ []
-unfolding sessionOf
-session-none t s h = rw (le-ltb s 16 h)
-
 pub length-session : (t : List ℕ) (s : ℕ) → length t ≡ tableLength → s < 16 → length (sessionOf t s) ≡ 128
 length-session t s l h = rw (session-is t s h) (length-part (sessionAt s) 128 t (omega arith))
 
@@ -88,10 +84,6 @@ pub site-is : (t : List ℕ) (m : ℕ) → m < 4 → siteOf t m ≡ partOf (site
 unfolding siteOf
 site-is t m h = rw (lt-ltb m 4 h)
 
-pub site-none : (t : List ℕ) (m : ℕ) → 4 ≤ m → siteOf t m ≡ []
-unfolding siteOf
-site-none t m h = rw (le-ltb m 4 h)
-
 pub length-site : (t : List ℕ) (m : ℕ) → length t ≡ tableLength → m < 4 → length (siteOf t m) ≡ 13056
 length-site t m l h = rw (site-is t m h) (length-part (siteAt m) 13056 t (omega arith))
 
@@ -120,10 +112,6 @@ module _ (t : List ℕ) (m : ℕ) (f : List ℕ → List ℕ) (l : length t ≡ 
 pub node-is : (s : List ℕ) (p : ℕ) → p < 4 → nodeOf s p ≡ partOf (nodeAt p) 1856 s
 unfolding nodeOf
 node-is s p h = rw (lt-ltb p 4 h)
-
-pub node-none : (s : List ℕ) (p : ℕ) → 4 ≤ p → nodeOf s p ≡ []
-unfolding nodeOf
-node-none s p h = rw (le-ltb p 4 h)
 
 pub length-node : (s : List ℕ) (p : ℕ) → length s ≡ 13056 → p < 4 → length (nodeOf s p) ≡ 1856
 length-node s p l h = rw (node-is s p h) (length-part (nodeAt p) 1856 s (omega arith))

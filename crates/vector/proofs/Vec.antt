@@ -10,7 +10,7 @@ use lib.Dec.{T, leb, eqb, le→leb, eqb-refl}
 use mir.Facts.{T-not, or-yes, leb-yes, eqb-yes}
 use Rattle.codec.proofs.Tests.{cond-elim}
 use Rattle.codec.proofs.Below.{all-below-at, all-below}
-use Rattle.vector.specs.Vec.{Vec, width, zeros, atMost, atMostBut, largestOf, largest, withEntry, atLeast, larger, raised}
+use Rattle.vector.specs.Vec.{Vec, width, atMost, atMostBut, largestOf, largest, withEntry, atLeast, larger, raised}
 
 -- ---- tests of every entry
 
@@ -26,10 +26,6 @@ le-refl v i l = omega arith
 pub le-trans : (u v w : Vec) → LeV u v → LeV v w → LeV u w
 unfolding LeV
 le-trans u v w g h i l = omega (arith, g i l, h i l)
-
-pub zeros-le : (v : Vec) → LeV zeros v
-unfolding LeV zeros
-zeros-le v i l = omega arith
 
 pub at-most-le : (v w : Vec) → T (atMost v w) → LeV v w
 unfolding atMost LeV

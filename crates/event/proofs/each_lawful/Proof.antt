@@ -3,7 +3,7 @@ use mathlib.Core.Path.{_≡_, sym}
 use Prim.Native.Nat.{_-_, _≤_}
 use native.Mathlib.Omega.{arith}
 use Rattle.codec.specs.Below.{allBelow}
-use Rattle.vector.proofs.Entries.{allBelow-none, allBelow-step}
+use Rattle.codec.proofs.Below.{allBelow-none, allBelow-step}
 use Rattle.event.specs.Ranges.{fieldLawful}
 use Rattle.event.proofs.each_lawful.Statement.{statement}
 use Rattle.event.proofs.each_lawful.Tie as tie

@@ -5,8 +5,9 @@ use native.Mathlib.Omega.{arith}
 use borrow.Author.Count.{below-none}
 use lib.ListN.{length, length-set}
 use Rattle.codec.specs.Le.{load}
+use Rattle.codec.proofs.Tabulate.{tab-is}
 use Rattle.vector.specs.Entries.{entry}
-use Rattle.vector.proofs.Entries.{Agree, fill-more, tabulate-is}
+use Rattle.vector.proofs.Entries.{Agree, fill-more}
 use Rattle.event.proofs.load_keys.Statement.{statement}
 use Rattle.event.proofs.load_keys.Tie as tie
 use borrow.Author.Needs.{needs}
@@ -41,9 +42,10 @@ loop-again c =
     (omega arith, simp length-set (omega arith), fill-more _ (l .loop .keys) (l .loop .i) _ (omega arith) (l .loop .inv .2) (c .load-u8 .ensures))
 
 returns : tie.Need-returns Inv-loop μ-loop
+unfolding entry
 returns c =
     let l = c .before in
-    tabulate-is 8 _ (l .loop .keys) (l .loop .inv .1) (λ k b. l .loop .inv .2 k (omega arith))
+    tab-is 8 _ (l .loop .keys) 0 (l .loop .inv .1) (λ k b. l .loop .inv .2 k (omega arith))
 
 pub load-keys-spec : {M : Type 1} → statement M
 load-keys-spec =

@@ -2,7 +2,6 @@
 use mathlib.Core.Path.{sym, _∙_}
 use borrow.Author.Needs.{needs}
 use borrow.Author.Tests.{eq-eqb, ne-eqb}
-use Rattle.vector.proofs.Short.{entry-loadVec}
 use Rattle.protocol.specs.Record.{ofKey}
 use Rattle.record.specs.RecordBytes.{recordAt}
 use Rattle.search.specs.Found.{fitsRead}
@@ -30,7 +29,7 @@ unfolding fitsRead ofKey recordAt
 returns-2 c =
     let u = c .before .before in
     let k = u .before .before in
-    rw (eq-eqb _ _ (sym (k .load-u8 .ensures) ∙ u .before .if1 .left), u .if2 .taken) (c .at-most .ensures ∙ rw (c .before .load-vector .ensures, entry-loadVec))
+    rw (eq-eqb _ _ (sym (k .load-u8 .ensures) ∙ u .before .if1 .left), u .if2 .taken) (c .at-most .ensures ∙ rw (c .before .load-vector .ensures))
 
 returns-3 : tie.Need-returns-3
 unfolding fitsRead ofKey recordAt

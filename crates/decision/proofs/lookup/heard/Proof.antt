@@ -1,7 +1,5 @@
 -- `decision::lookup::heard` meets its contract, by what the lent node says. Assumes nothing.
 use mathlib.Core.Path.{sym, ap, _∙_}
-use Rattle.vector.specs.Entries.{entry, loadVec}
-use Rattle.vector.proofs.Short.{entry-loadVec}
 use Rattle.parts.specs.Node.{heardIn}
 use Rattle.decision.proofs.Nested.{node-in-table}
 use Rattle.decision.proofs.lookup.heard.Statement.{statement}
@@ -40,7 +38,7 @@ unfolding heardIn
 returns c =
     let s = c .before .before .before in
     let a = s .args in
-    ap entry (c .heard .ensures) ∙ entry-loadVec _ 8 ∙ ap (λ n. loadVec n 8) (sym (node-in-table (a .t .now) (a .m) (a .p) (s .pre .0) (s .pre .1) (s .pre .2)))
+    c .heard .ensures ∙ ap heardIn (sym (node-in-table (a .t .now) (a .m) (a .p) (s .pre .0) (s .pre .1) (s .pre .2)))
 
 pub heard-spec : {M : Type 1} → statement M
 heard-spec =

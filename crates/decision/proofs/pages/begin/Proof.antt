@@ -67,8 +67,8 @@ heard-requires c κs =
     let k = e .before .before in
     (k .before .before .pre .0, k .session .ensures .2 (is-open e), k .before .before .pre .3)
 
-larger-requires : tie.Need-larger-requires
-larger-requires c κs = search needs
+larger-of-requires : tie.Need-larger-of-requires
+larger-of-requires c κs = search needs
 
 begun-requires : tie.Need-begun-requires
 begun-requires c κs = search needs
@@ -83,7 +83,7 @@ returns-4 c =
     let e3 = w .before .before .before .before in
     let u = e3 .before in
     let e2 = u .before in
-    c .kept .ensures ∙ sym (says (e2 .before .before .before) ∙ rw (w .begun .ensures, w .before .larger .ensures, w .before .before .heard .ensures, is-open (e2 .before), e2 .if2 .left, sym (u .distinct .ensures), not-false (u .distinct .result) (e3 .if3 .left)))
+    c .kept .ensures ∙ sym (says (e2 .before .before .before) ∙ rw (w .begun .ensures, w .before .larger-of .ensures, w .before .before .heard .ensures, is-open (e2 .before), e2 .if2 .left, sym (u .distinct .ensures), not-false (u .distinct .result) (e3 .if3 .left)))
 
 pub begin-spec : {M : Type 1} → statement M
 begin-spec =
@@ -98,7 +98,7 @@ begin-spec =
     refused-requires-3
     returns-3
     heard-requires
-    larger-requires
+    larger-of-requires
     begun-requires
     kept-requires
     returns-4)

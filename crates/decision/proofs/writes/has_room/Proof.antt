@@ -5,7 +5,7 @@ use native.Mathlib.Omega.{arith}
 use lib.Dec.{ltb}
 use Rattle.codec.specs.Le.{load}
 use Rattle.codec.specs.Below.{allBelow}
-use Rattle.vector.proofs.Entries.{allBelow-none, allBelow-step}
+use Rattle.codec.proofs.Below.{allBelow-none, allBelow-step}
 use Rattle.parts.specs.Channel.{waitIn}
 use Rattle.table.specs.Parts.{siteOf, channelOf}
 use Rattle.decision.proofs.writes.has_room.Statement.{statement}

@@ -5,7 +5,7 @@ use native.Mathlib.Omega.{arith}
 use lib.Dec.{ltb}
 use lib.ListN.{getD}
 use Rattle.codec.specs.Below.{allBelow}
-use Rattle.vector.proofs.Entries.{allBelow-none, allBelow-step}
+use Rattle.codec.proofs.Below.{allBelow-none, allBelow-step}
 use Rattle.event.specs.Ranges.{keysBelow}
 use Rattle.event.proofs.bounds.keys_lawful.Statement.{statement}
 use Rattle.event.proofs.bounds.keys_lawful.Tie as tie

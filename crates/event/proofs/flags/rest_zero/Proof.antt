@@ -6,7 +6,7 @@ use native.Mathlib.Omega.{arith}
 use lib.Dec.{ltb, eqb}
 use Rattle.codec.specs.Le.{load}
 use Rattle.codec.specs.Below.{allBelow}
-use Rattle.vector.proofs.Entries.{allBelow-none, allBelow-step}
+use Rattle.codec.proofs.Below.{allBelow-none, allBelow-step}
 use Rattle.event.specs.Fields.{restZero}
 use Rattle.event.proofs.Keys.{rest-none}
 use Rattle.event.proofs.flags.rest_zero.Statement.{statement}

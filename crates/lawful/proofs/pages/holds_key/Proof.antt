@@ -7,7 +7,7 @@ use borrow.Author.Tests.{not-true, not-false, eq-eqb, ne-eqb}
 use lib.Dec.{eqb}
 use Rattle.codec.specs.Le.{load}
 use Rattle.codec.specs.Below.{allBelow}
-use Rattle.vector.proofs.Entries.{allBelow-none, allBelow-more, allBelow-fails}
+use Rattle.codec.proofs.Below.{allBelow-none, allBelow-more, allBelow-fails}
 use Rattle.lawful.proofs.KeyTests.{holdsKey-all}
 use Rattle.lawful.proofs.pages.holds_key.Statement.{statement}
 use Rattle.lawful.proofs.pages.holds_key.Tie as tie

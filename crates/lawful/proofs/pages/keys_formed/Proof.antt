@@ -8,7 +8,7 @@ use lib.Dec.{ltb}
 use Rattle.codec.specs.Le.{load}
 use Rattle.codec.specs.Below.{allBelow}
 use Rattle.codec.specs.Tabulate.{tabulate}
-use Rattle.vector.proofs.Entries.{allBelow-none, allBelow-more, allBelow-fails}
+use Rattle.codec.proofs.Below.{allBelow-none, allBelow-more, allBelow-fails}
 use Rattle.protocol.specs.Needs.{holdsKey}
 use Rattle.lawful.proofs.KeyTests.{keys-all}
 use Rattle.lawful.proofs.pages.keys_formed.Statement.{statement}

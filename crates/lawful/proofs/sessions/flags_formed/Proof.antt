@@ -7,7 +7,7 @@ use borrow.Author.Tests.{lt-ltb, le-ltb}
 use lib.Dec.{ltb}
 use Rattle.codec.specs.Le.{load}
 use Rattle.codec.specs.Below.{allBelow}
-use Rattle.vector.proofs.Entries.{allBelow-none, allBelow-more, allBelow-fails}
+use Rattle.codec.proofs.Below.{allBelow-none, allBelow-more, allBelow-fails}
 use Rattle.lawful.specs.WellFormed.{flagsAt}
 use Rattle.lawful.proofs.sessions.flags_formed.Statement.{statement}
 use Rattle.lawful.proofs.sessions.flags_formed.Tie as tie

@@ -5,7 +5,7 @@ use Prim.Native.Nat.{_-_, _≤_}
 use native.Mathlib.Omega.{arith}
 use Rattle.codec.specs.Below.{allBelow}
 use Rattle.codec.proofs.Tests.{fails, passes}
-use Rattle.vector.proofs.Entries.{allBelow-none, allBelow-more, allBelow-fails}
+use Rattle.codec.proofs.Below.{allBelow-none, allBelow-more, allBelow-fails}
 use Rattle.table.specs.Parts.{channelOf}
 use Rattle.lawful.specs.WellFormed.{channelFormed}
 use Rattle.lawful.proofs.sites.channels_formed.Statement.{statement}

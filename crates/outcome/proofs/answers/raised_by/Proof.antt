@@ -11,14 +11,17 @@ returns : tie.Need-returns
 unfolding raisedBy foundOf
 returns c = rw (not-true (c .before .before .args .x .found) (c .if1 .taken))
 
+cast-raised : tie.Need-cast-raised
+cast-raised c = search needs
+
 raised-requires : tie.Need-raised-requires
 raised-requires c κs = search needs
 
 returns-2 : tie.Need-returns-2
 unfolding raisedBy foundOf asRecord
 returns-2 c =
-    let e = c .before .before .before in
+    let e = c .before .before .before .before in
     rw (not-false (e .before .before .args .x .found) (e .if1 .left)) (c .raised .ensures)
 
 pub raised-by-spec : {M : Type 1} → statement M
-raised-by-spec = tie.close (tie.spec returns raised-requires returns-2)
+raised-by-spec = tie.close (tie.spec returns cast-raised raised-requires returns-2)

@@ -2,7 +2,6 @@
 use native.Mathlib.Omega.{arith}
 use borrow.Author.Needs.{needs}
 use Rattle.codec.specs.Le.{load}
-use Rattle.vector.proofs.Short.{entry-loadVec}
 use Rattle.parts.specs.Meaning.{asSession}
 use Rattle.parts.specs.Session.{sessionIn}
 use Rattle.parts.proofs.Marks.{marks-loaded}
@@ -42,7 +41,7 @@ returns c =
     let k = c .before .before .before in
     let u = k .before .before in
     let b = u .before .before .before .before .before .args .b .now in
-    rw (c .load-vector3 .ensures, entry-loadVec b 96, c .before .load-vector2 .ensures, entry-loadVec b 64, c .before .before .load-vector .ensures, entry-loadVec b 32, u .load-u84 .ensures, marks-loaded b (k .before .load-keys .result) (k .load-marks .result) (load 1 b 3) (omega arith) (k .before .load-keys .ensures) (k .load-marks .ensures), u .before .load-u83 .ensures, u .before .before .load-u82 .ensures, u .before .before .before .load-u8 .ensures)
+    rw (c .load-vector3 .ensures, c .before .load-vector2 .ensures, c .before .before .load-vector .ensures, u .load-u84 .ensures, marks-loaded b (k .before .load-keys .result) (k .load-marks .result) (load 1 b 3) (omega arith) (k .before .load-keys .ensures) (k .load-marks .ensures), u .before .load-u83 .ensures, u .before .before .load-u82 .ensures, u .before .before .before .load-u8 .ensures)
 
 pub load-spec : {M : Type 1} → statement M
 load-spec =

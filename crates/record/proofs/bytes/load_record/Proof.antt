@@ -2,7 +2,6 @@
 use borrow.Author.Needs.{needs}
 use mir.ValLaws.{toZ-ofZ}
 use mir.Syntax.{w32}
-use Rattle.vector.proofs.Short.{entry-loadVec}
 use Rattle.record.specs.Meaning.{asRecord}
 use Rattle.record.specs.RecordBytes.{recordAt}
 use Rattle.record.proofs.bytes.load_record.Statement.{statement}
@@ -45,7 +44,7 @@ returns : tie.Need-returns
 unfolding asRecord recordAt
 returns c =
     let got = c .before .before .load-level in
-    rw (toZ-ofZ w32 (got .result) (record { sfits = got .ok }), got .ensures, c .load-vector .ensures, entry-loadVec, c .before .before .before .before .before .load-u8 .ensures, c .before .before .before .before .load-u82 .ensures, c .before .before .before .load-u83 .ensures, c .before .load-u64 .ensures)
+    rw (toZ-ofZ w32 (got .result) (record { sfits = got .ok }), got .ensures, c .load-vector .ensures, c .before .before .before .before .before .load-u8 .ensures, c .before .before .before .before .load-u82 .ensures, c .before .before .before .load-u83 .ensures, c .before .load-u64 .ensures)
 
 pub load-record-spec : {M : Type 1} → statement M
 load-record-spec =

@@ -3,7 +3,7 @@ use mathlib.Core.Path.{_∙_}
 use borrow.Author.Needs.{needs}
 use mir.ValLaws.{toZ-ofZ}
 use mir.Syntax.{w32}
-use Rattle.vector.proofs.Short.{entry-zeros}
+use Rattle.vector.proofs.Entries.{entry-zeros}
 use Rattle.record.specs.Meaning.{messageOf}
 use Rattle.record.specs.RecordBytes.{putRecord, putMessage}
 use Rattle.record.proofs.Meaning.{message-told}

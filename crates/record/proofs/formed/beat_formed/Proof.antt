@@ -1,19 +1,21 @@
 -- `record::formed::beat_formed` meets its contract: behind a key of 0 the comparisons with it are those with 0. Assumes nothing.
 use mathlib.Core.Path.{_≡_, refl, sym, _∙_}
-use mathlib.Core.Bool.{Bool, _&&_}
+use mathlib.Core.Bool.{Bool, _&&_, and-true}
+use mathlib.Core.List.{[], _∷_}
+use Rattle.codec.specs.Tests.{every}
+use Rattle.codec.specs.Le.{load}
+use Rattle.codec.specs.Below.{allBelow}
+use Rattle.codec.proofs.Below.{allBelow-ext}
+use Rattle.vector.specs.Vec.{width}
+use Rattle.vector.specs.Entries.{loadVec}
+use Rattle.record.specs.RecordFormed.{beatFormed}
+use Rattle.record.proofs.formed.beat_formed.Statement.{statement}
+use Rattle.record.proofs.formed.beat_formed.Tie as tie
 use Prim.Native.Nat.{ℕ, zero, suc, _+_}
 use native.Mathlib.Decide.{ℕ-discrete}
 use native.Mathlib.Omega.{arith}
 use borrow.Author.Tests.{lt-leb, ne-eqb}
 use lib.Dec.{leb, eqb}
-use Rattle.codec.specs.Le.{load}
-use Rattle.codec.specs.Below.{allBelow}
-use Rattle.vector.specs.Vec.{width}
-use Rattle.vector.specs.Entries.{loadVec}
-use Rattle.vector.proofs.Entries.{allBelow-ext}
-use Rattle.record.specs.RecordFormed.{beatFormed}
-use Rattle.record.proofs.formed.beat_formed.Statement.{statement}
-use Rattle.record.proofs.formed.beat_formed.Tie as tie
 use borrow.Author.Needs.{needs}
 
 leb-zero : (n : ℕ) → leb n 0 ≡ eqb n 0
@@ -21,11 +23,12 @@ leb-zero zero = refl
 leb-zero (suc n) = lt-leb (suc n) 0 (omega arith) ∙ sym (ne-eqb (suc n) 0 (omega arith))
 
 -- behind a key of 0, at most the key is 0
-with-key : (key level : ℕ) (v : ℕ → ℕ) (s q : Bool) → (eqb key 0 && (s && (q && (leb level key && allBelow width (λ e. leb (v e) key))))) ≡ (eqb key 0 && (s && (q && (eqb level 0 && allBelow width (λ e. eqb (v e) 0)))))
+with-key : (key level : ℕ) (v : ℕ → ℕ) (s q : Bool) → (eqb key 0 && (s && (q && (leb level key && allBelow width (λ e. leb (v e) key))))) ≡ every (eqb key 0 ∷ s ∷ q ∷ eqb level 0 ∷ allBelow width (λ e. eqb (v e) 0) ∷ [])
+unfolding every
 with-key key level v s q = go (ℕ-discrete key 0)
   where
-    go : Dec (key ≡ 0) → (eqb key 0 && (s && (q && (leb level key && allBelow width (λ e. leb (v e) key))))) ≡ (eqb key 0 && (s && (q && (eqb level 0 && allBelow width (λ e. eqb (v e) 0)))))
-    go (yes z) = rw (z, leb-zero level, allBelow-ext width (λ e. leb (v e) 0) (λ e. eqb (v e) 0) (λ e b. leb-zero (v e)))
+    go : Dec (key ≡ 0) → (eqb key 0 && (s && (q && (leb level key && allBelow width (λ e. leb (v e) key))))) ≡ every (eqb key 0 ∷ s ∷ q ∷ eqb level 0 ∷ allBelow width (λ e. eqb (v e) 0) ∷ [])
+    go (yes z) = rw (z, leb-zero level, allBelow-ext width (λ e. leb (v e) 0) (λ e. eqb (v e) 0) (λ e b. leb-zero (v e)), and-true (allBelow width (λ e. eqb (v e) 0)))
     go (no d) = rw (ne-eqb key 0 d)
 
 load-u8-requires : tie.Need-load-u8-requires

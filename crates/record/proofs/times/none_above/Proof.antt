@@ -6,9 +6,10 @@ use native.Mathlib.Omega.{arith}
 use borrow.Author.Tests.{le-leb, lt-leb}
 use lib.Dec.{leb}
 use Rattle.codec.specs.Below.{allBelow}
+use Rattle.codec.proofs.Below.{allBelow-none, allBelow-more, allBelow-fails}
 use Rattle.vector.specs.Vec.{width}
 use Rattle.vector.specs.Entries.{loadVec}
-use Rattle.vector.proofs.Entries.{allBelow-none, allBelow-more, allBelow-fails, loadVec-below}
+use Rattle.vector.proofs.Entries.{loadVec-below}
 use Rattle.record.proofs.times.none_above.Statement.{statement}
 use Rattle.record.proofs.times.none_above.Tie as tie
 use borrow.Author.Needs.{needs}

@@ -1,5 +1,4 @@
 -- `record::times::vector_formed` meets its contract: what was loaded are the entries. Assumes nothing.
-use Rattle.vector.proofs.Short.{entry-loadVec}
 use Rattle.record.proofs.times.vector_formed.Statement.{statement}
 use Rattle.record.proofs.times.vector_formed.Tie as tie
 use borrow.Author.Needs.{needs}
@@ -11,7 +10,7 @@ vector-lawful-requires : tie.Need-vector-lawful-requires
 vector-lawful-requires c κs = search needs
 
 returns : tie.Need-returns
-returns c = λ parts. rw (c .vector-lawful .ensures parts, c .before .load-vector .ensures, entry-loadVec)
+returns c = λ parts. rw (c .vector-lawful .ensures parts, c .before .load-vector .ensures)
 
 pub vector-formed-spec : {M : Type 1} → statement M
 vector-formed-spec = tie.close (tie.spec load-vector-requires vector-lawful-requires returns)

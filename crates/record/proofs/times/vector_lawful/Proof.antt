@@ -6,9 +6,9 @@ use native.Mathlib.Omega.{arith}
 use lib.Dec.{ltb, eqb}
 use Rattle.codec.specs.Below.{allBelow}
 use Rattle.codec.proofs.Tests.{fails, passes}
+use Rattle.codec.proofs.Below.{allBelow-none, allBelow-more, allBelow-fails}
 use Rattle.vector.specs.Vec.{width}
 use Rattle.vector.specs.Entries.{entry}
-use Rattle.vector.proofs.Entries.{allBelow-none, allBelow-more, allBelow-fails}
 use Rattle.record.specs.Ranges.{timeLawful, vecLawful}
 use Rattle.record.proofs.times.vector_lawful.Statement.{statement}
 use Rattle.record.proofs.times.vector_lawful.Tie as tie

@@ -1,10 +1,10 @@
--- `decision::writes::is_update` meets its contract, variant by variant. Assumes nothing.
+-- `record::bytes::is_update` meets its contract, variant by variant. Assumes nothing.
 use mathlib.Core.Path.{sym, ap}
 use mathlib.Core.List.{[], _∷_}
 use Rattle.protocol.specs.Needs.{frontUpdates}
 use Rattle.record.specs.Meaning.{messageOf, asMessage}
-use Rattle.decision.proofs.writes.is_update.Statement.{statement}
-use Rattle.decision.proofs.writes.is_update.Tie as tie
+use Rattle.record.proofs.bytes.is_update.Statement.{statement}
+use Rattle.record.proofs.bytes.is_update.Tie as tie
 use borrow.Author.Needs.{needs}
 
 enum-told : tie.Need-enum-told

@@ -1,17 +1,15 @@
--- `decision::writes::stored` meets its contract: the message carries the old vector, and the session has the new one. Assumes nothing.
+-- `outcome::answers::stored` meets its contract: the message carries the old vector, and the session has the new one. Assumes nothing.
 use mathlib.Core.Path.{_≡_}
 use native.Mathlib.Omega.{arith}
 use lib.ListN.{length}
 use mir.ValLaws.{toZ-ofZ}
 use mir.Syntax.{w32}
-use Rattle.vector.specs.Vec.{width}
-use Rattle.vector.proofs.Short.{entry-with}
 use Rattle.protocol.specs.Serve.{written}
 use Rattle.record.specs.Meaning.{messageOf}
 use Rattle.parts.specs.Meaning.{asSession}
 use Rattle.outcome.specs.Decided.{changesOf, outcomeOf}
-use Rattle.decision.proofs.writes.stored.Statement.{statement}
-use Rattle.decision.proofs.writes.stored.Tie as tie
+use Rattle.outcome.proofs.answers.stored.Statement.{statement}
+use Rattle.outcome.proofs.answers.stored.Tie as tie
 use borrow.Author.Needs.{needs}
 
 cast-with-entry : tie.Need-cast-with-entry
@@ -23,16 +21,12 @@ with-entry-requires c κs = search needs
 with-vector-requires : tie.Need-with-vector-requires
 with-vector-requires c κs = search needs
 
-four : (s : tie.Start) → length (s .args .x .vec .e) ≡ width
-unfolding width
-four s = search needs
-
 returns : tie.Need-returns
-unfolding outcomeOf changesOf messageOf asSession written width
+unfolding outcomeOf changesOf messageOf asSession written
 returns c =
     let s = c .before .before .before in
     let x = s .args .x in
-    rw (c .with-vector .ensures, c .before .with-entry .ensures, entry-with (x .vec .e) (four s) (x .site) (s .args .stamp) (omega arith), toZ-ofZ w32 (s .args .level) (search needs))
+    rw (c .with-vector .ensures, c .before .with-entry .ensures, toZ-ofZ w32 (s .args .level) (search needs))
 
 pub stored-spec : {M : Type 1} → statement M
 stored-spec = tie.close (tie.spec cast-with-entry with-entry-requires with-vector-requires returns)

@@ -1,9 +1,9 @@
--- `decision::writes::taken` meets its contract: the message and its vector are the letter's. Assumes nothing.
+-- `outcome::answers::taken` meets its contract: the message and its vector are the letter's. Assumes nothing.
 use mathlib.Core.Path.{refl}
 use Rattle.record.specs.Meaning.{asMessage}
 use Rattle.outcome.specs.Decided.{changesOf, outcomeOf}
-use Rattle.decision.proofs.writes.taken.Statement.{statement}
-use Rattle.decision.proofs.writes.taken.Tie as tie
+use Rattle.outcome.proofs.answers.taken.Statement.{statement}
+use Rattle.outcome.proofs.answers.taken.Tie as tie
 use borrow.Author.Needs.{needs}
 
 closed-requires : tie.Need-closed-requires
