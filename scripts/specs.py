@@ -8,7 +8,7 @@ from pathlib import Path
 
 USE = re.compile(r'^\s*(?:ghost )?(?:unfoldable )?(pub )?use ([^\s{;]+?)(?:\.\{([^}]*)\}|\s+as\s+(\S+?))?;?$', re.M)
 HEAD = re.compile(r'^(?P<marks>(?:(?:unfoldable|abbrev|pub) )*)(?P<kind>record |data )?(?P<name>[^\s:({=]+)(?:\s*[({][^)}]*[)}])*\s*:')
-MODULE = re.compile(r'^Rattle·([^.·]+)(?:·specs)?\.specs\.(.+)$')
+MODULE = re.compile(r'^Rattle·([^.·]+)(?:·specs)?\.specs(?:\.(.+))?$')
 COMMENT = re.compile(r'\{-.*?-\}|^ *--[^\n]*', re.S | re.M)
 
 
@@ -116,9 +116,11 @@ class File:
         for name, (module, old) in self.names.items():
             if named_by(word, name):
                 return self.crates.find(module, old)
-        alias, _, last = word.rpartition('.')
-        if alias in self.modules:
-            return self.crates.find(self.modules[alias], last)
+        head, _, last = word.rpartition('.')
+        if head and last:
+            alias, _, below = head.partition('.')
+            module = '.'.join(filter(None, (self.modules.get(alias, alias), below)))
+            return self.crates.find(module, last) or self.meaning(head)
 
     def passes(self, name):
         """The definition that another file gets from this one by the name."""
@@ -149,7 +151,7 @@ class Crates:
         known = MODULE.match(module)
         if not known:
             return None
-        crate, place = known.groups()
+        crate, place = known[1], known[2] or 'Lib'
         if place.startswith('declared.'):
             return self.types.get((crate, [p for p in place.split('.') if p != 'the-variants'][-1]))
         file = self.specs.get((crate, place))
