@@ -11,12 +11,12 @@ use Rattle.vector.proofs.Tests.{cond-elim}
 use Rattle.protocol.specs.Record.{Msg}
 use Rattle.protocol.specs.Event.{Event, OPEN, CLOSE, CLOCK, GET, PUT, BEGIN, READ, END, BEAT, DELIVER}
 use Rattle.protocol.specs.View.{Place, ofSession, atSite, onChannel, look, viewAt, view, place}
-use Rattle.protocol.specs.Needs.{beatSends, ranges, needs}
+use Rattle.protocol.specs.Needs.{beatSends, needs}
 use Rattle.protocol.specs.Change.{Receive}
 use Rattle.protocol.specs.Serve.{taken, serve}
 use Rattle.protocol.specs.Step.{decide, step}
 use Rattle.protocol.specs.Promises.{Alike}
-use Rattle.protocol.proofs.Judge.{Met, met-both, judge-elim}
+use Rattle.protocol.proofs.Judge.{Met, step-elim}
 use Rattle.protocol.proofs.Influence as Protocol
 use Rattle.table.specs.Parts.{tableLength}
 use Rattle.table.specs.Decode.{settingIn, decode}
@@ -39,7 +39,7 @@ use Rattle.archive.proofs.Closed.{shut-alike}
 
 module _ (t u : List ℕ) (q : settingIn t ≡ settingIn u) where
   shut-step : (e : Event) (s : ℕ) → place e ≡ ofSession s → decode t .session s ≡ decode u .session s → T (not (decode t .session s .isOpen)) → step (decode t) e ≡ step (decode u) e
-  unfolding step view viewAt
+  unfolding step
   shut-step e s d a z =
       rw d
       (shut-alike (decode t .net) (decode u .net) (decode t .session s) (decode t .session s .site) (decode t .session s .site) (unfold decode in q) z e s d
@@ -70,7 +70,7 @@ taken-seen t u i m p (x ∷ l) f = (f x, tt)
 
 module _ (t u : List ℕ) where
   agree-serve : (e : Event) → AgreeOn t u (place e) → Met (needs (view (decode t) e) e) → SeenAll (serve (view (decode t) e) e .changes) t u
-  unfolding place view viewAt look serve needs AgreeOn Alike
+  unfolding serve needs AgreeOn Alike
   agree-serve (OPEN s m) a met = (tt, tt)
   agree-serve (CLOSE s) a met = (tt, tt)
   agree-serve (CLOCK m p c) a met = (tt, tt)
@@ -83,10 +83,7 @@ module _ (t u : List ℕ) where
   agree-serve (DELIVER i m p) a met = taken-seen t u i m p (decode t .net .chan i m p) (λ x. (a .0 .0, a .0 .1, a .1))
 
   agree-seen : (e : Event) → AgreeOn t u (place e) → SeenAll (step (decode t) e .changes) t u
-  unfolding step decide
-  agree-seen e a =
-      let v = view (decode t) e in
-      judge-elim (λ o. SeenAll (o .changes) t u) (ranges (v .setting) e ++ needs v e) (serve v e) (λ n. tt) (λ met. agree-serve e a (met-both (ranges (v .setting) e) (needs v e) met .1))
+  agree-seen e a = step-elim (decode t) e (λ o. SeenAll (o .changes) t u) (λ w. tt) (λ r met. agree-serve e a met)
 
 -- ---- refusals and the call
 

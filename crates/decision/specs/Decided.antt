@@ -6,10 +6,9 @@ use Rattle.protocol.specs.Record.{Beat}
 use Rattle.protocol.specs.State.{State}
 use Rattle.protocol.specs.Event.{Event}
 use Rattle.protocol.specs.View.{view}
-use Rattle.protocol.specs.Needs.{needs}
 use Rattle.protocol.specs.Change.{Change, SetSession, SetClock, Publish, Receive}
-use Rattle.protocol.specs.Serve.{Outcome, _and_, serve}
-use Rattle.protocol.specs.Step.{judge}
+use Rattle.protocol.specs.Serve.{Outcome, _and_}
+use Rattle.protocol.specs.Step.{judged}
 use Rattle.table.specs.Values.{messageOf, asSession}
 use Rattle.table.specs.declared.Session.{Session}
 use Rattle.vector.specs.declared.Vector.{Vector}
@@ -30,4 +29,4 @@ outcomeOf d = d .answer and changesOf (d .effect) (d .carried) (d .session)
 
 -- what the protocol decides of an event whose fields are in range
 unfoldable pub answered : State → Event → Outcome
-answered S e = judge (needs (view S e) e) (serve (view S e) e)
+answered S e = judged (view S e) e

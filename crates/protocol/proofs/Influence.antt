@@ -1,23 +1,21 @@
 -- What may influence a step, and that a refusal changes nothing: both by the shape of a step. Assumes nothing.
 use Prim.Native.Nat.{ℕ}
 use mathlib.Core.Path.{_≡_, refl, ap, _∙_}
-use mathlib.Core.List.{List, [], _++_}
+use mathlib.Core.List.{List, []}
 use mathlib.Core.Option.{Option, some, none}
 use Rattle.protocol.specs.Record.{Rec, Msg}
 use Rattle.protocol.specs.State.{Net, Session, State, closed}
-use Rattle.protocol.specs.Event.{Event, OPEN, CLOSE, CLOCK, GET, PUT, BEGIN, READ, END, BEAT, DELIVER, Answer, Done, Stamped, Value, Nothing, Refused, shown}
+use Rattle.protocol.specs.Event.{Event, OPEN, CLOSE, CLOCK, GET, PUT, BEGIN, READ, END, BEAT, DELIVER, Answer, Done, Stamped, Value, Nothing, Refusal, Refused, shown}
 use Rattle.protocol.specs.View.{Place, ofSession, atSite, onChannel, View, look, viewAt, view, place}
-use Rattle.protocol.specs.Needs.{ranges, needs}
 use Rattle.protocol.specs.Change.{applyAll}
-use Rattle.protocol.specs.Serve.{serve}
+use Rattle.protocol.specs.Serve.{Outcome, serve}
 use Rattle.protocol.specs.Step.{decide, step, next}
 use Rattle.protocol.specs.Promises.{SiteAlike, Alike, Influenced, Untouched}
-use Rattle.protocol.proofs.Judge.{judge-elim}
+use Rattle.protocol.proofs.Judge.{step-elim}
 
 -- ---- a step sees its view alone
 
 look-alike : (N M : Net) (x : Session) (m : ℕ) (l : List Msg) → SiteAlike N M m → look N x m l ≡ look M x m l
-unfolding look
 look-alike N M x m l a = λ i. record {
   setting = a .setting i;
   session = x;
@@ -29,13 +27,13 @@ look-alike N M x m l a = λ i. record {
 }
 
 view-alike : (S R : State) (w : Place) → Alike S R w → viewAt S w ≡ viewAt R w
-unfolding Alike viewAt
+unfolding Alike
 view-alike S R (ofSession s) a = look-alike (S .net) (R .net) (S .session s) (S .session s .site) [] (a .1) ∙ ap (λ x. look (R .net) x (x .site) []) (a .0)
 view-alike S R (atSite m) a = look-alike (S .net) (R .net) closed m [] a
 view-alike S R (onChannel i m p) a = look-alike (S .net) (R .net) closed m (S .net .chan i m p) (a .0) ∙ ap (λ l. look (R .net) closed m l) (a .1)
 
 pub influenced : Influenced
-unfolding step view
+unfolding step
 influenced S R e a = ap (λ v. decide v e) (view-alike S R (place e) a)
 
 -- ---- a refusal has no changes
@@ -65,8 +63,10 @@ serve-is-served v (END s) u = u
 serve-is-served v (BEAT m p) u = u
 serve-is-served v (DELIVER i m p) u = u
 
+pub refused-still : (S : State) (e : Event) (w : Refusal) → step S e .says ≡ Refused w → step S e .changes ≡ []
+unfolding Unserved
+refused-still S e w = step-elim S e (λ (o : Outcome). o .says ≡ Refused w → o .changes ≡ []) (λ n z. refl) (λ r t z. absurd (serve-is-served (view S e) e (rw z tt)))
+
 pub untouched : Untouched
-unfolding next step decide Unserved applyAll
-untouched S e w =
-    judge-elim (λ o. o .says ≡ Refused w → applyAll (o .changes) S ≡ S) (ranges (view S e .setting) e ++ needs (view S e) e) (serve (view S e) e) (λ n z. refl)
-    (λ t z. absurd (serve-is-served (view S e) e (rw z tt)))
+unfolding next applyAll
+untouched S e w z = ap (λ cs. applyAll cs S) (refused-still S e w z)

@@ -8,7 +8,8 @@ use Rattle.table.specs.Values.{asSession}
 use Rattle.table.specs.Decode.{decode}
 use Rattle.decision.specs.Marks.{keysOn}
 use Rattle.decision.specs.Decided.{answered}
-use Rattle.decision.proofs.Ladders.{beginOf, begin-says}
+use Rattle.protocol.proofs.Ladders.{beginOf}
+use Rattle.decision.proofs.Ladders.{seenBy, begin-says}
 use borrow.Author.Needs.{needs}
 use Rattle.decision.proofs.pages.begin.Statement.{statement}
 use Rattle.decision.proofs.pages.begin.Tie as tie
@@ -17,7 +18,7 @@ use Rattle.decision.proofs.pages.begin.Tie as tie
 
 -- what is answered, by the session that was loaded
 says : (k : tie.After-session) → let a = k .before .before .args in
-    answered (decode (a .t .now)) (BEGIN (a .s) (a .p) (keysOn (a .keys) (a .count))) ≡ beginOf (a .t .now) (a .s) (a .p) (keysOn (a .keys) (a .count)) (asSession (k .session .result))
+    answered (decode (a .t .now)) (BEGIN (a .s) (a .p) (keysOn (a .keys) (a .count))) ≡ beginOf (seenBy (a .t .now) (asSession (k .session .result))) (a .s) (a .p) (keysOn (a .keys) (a .count))
 says k =
     let a = k .before .before .args in
     begin-says (a .t .now) (a .s) (asSession (k .session .result)) (k .session .ensures .0) (a .p) (keysOn (a .keys) (a .count))

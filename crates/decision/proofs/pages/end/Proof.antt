@@ -10,7 +10,8 @@ use Rattle.protocol.specs.Event.{END}
 use Rattle.table.specs.Values.{asSession}
 use Rattle.table.specs.Decode.{decode}
 use Rattle.decision.specs.Decided.{answered}
-use Rattle.decision.proofs.Ladders.{endOf, end-says}
+use Rattle.protocol.proofs.Ladders.{endOf}
+use Rattle.decision.proofs.Ladders.{seenBy, end-says}
 use borrow.Author.Needs.{needs}
 use Rattle.decision.proofs.pages.end.Statement.{statement}
 use Rattle.decision.proofs.pages.end.Tie as tie
@@ -19,7 +20,7 @@ use Rattle.decision.proofs.pages.end.Tie as tie
 
 -- what is answered, by the session that was loaded
 says : (k : tie.After-session) → let a = k .before .before .args in
-    answered (decode (a .t .now)) (END (a .s)) ≡ endOf (a .s) (asSession (k .session .result))
+    answered (decode (a .t .now)) (END (a .s)) ≡ endOf (seenBy (a .t .now) (asSession (k .session .result))) (a .s)
 says k =
     let a = k .before .before .args in
     end-says (a .t .now) (a .s) (asSession (k .session .result)) (k .session .ensures .0)

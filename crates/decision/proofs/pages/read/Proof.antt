@@ -12,7 +12,8 @@ use Rattle.table.specs.Decode.{settingIn, decode}
 use Rattle.decision.specs.Found.{foundOf}
 use Rattle.decision.specs.Decided.{answered}
 use Rattle.decision.proofs.Places.{fits-page}
-use Rattle.decision.proofs.Ladders.{heardBy, storedBy, readOf, read-says}
+use Rattle.protocol.proofs.Ladders.{readOf}
+use Rattle.decision.proofs.Ladders.{seenBy, heardBy, storedBy, read-says}
 use borrow.Author.Needs.{needs}
 use Rattle.decision.proofs.pages.read.Statement.{statement}
 use Rattle.decision.proofs.pages.read.Tie as tie
@@ -21,7 +22,7 @@ use Rattle.decision.proofs.pages.read.Tie as tie
 
 -- what is answered, by the session that was loaded
 says : (k : tie.After-session) → let a = k .before .before .args in
-    answered (decode (a .t .now)) (READ (a .s) (a .k)) ≡ readOf (a .t .now) (a .s) (a .k) (asSession (k .session .result))
+    answered (decode (a .t .now)) (READ (a .s) (a .k)) ≡ readOf (seenBy (a .t .now) (asSession (k .session .result))) (a .s) (a .k)
 says k =
     let a = k .before .before .args in
     read-says (a .t .now) (a .s) (asSession (k .session .result)) (k .session .ensures .0) (a .k)

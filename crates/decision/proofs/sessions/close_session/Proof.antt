@@ -6,14 +6,15 @@ use Rattle.protocol.specs.declared.Answer.{Answer}
 use Rattle.table.specs.Values.{asSession}
 use Rattle.table.specs.Decode.{decode}
 use Rattle.decision.specs.Decided.{answered}
-use Rattle.decision.proofs.Ladders.{keeps, closeOf, close-says}
+use Rattle.protocol.proofs.Ladders.{keeps, closeOf}
+use Rattle.decision.proofs.Ladders.{seenBy, close-says}
 use borrow.Author.Needs.{needs}
 use Rattle.decision.proofs.sessions.close_session.Statement.{statement}
 use Rattle.decision.proofs.sessions.close_session.Tie as tie
 
 -- what is answered, by the session that was loaded
 says : (k : tie.After-session) → let a = k .before .before .args in
-    answered (decode (a .t .now)) (CLOSE (a .s)) ≡ closeOf (a .s) (asSession (k .session .result))
+    answered (decode (a .t .now)) (CLOSE (a .s)) ≡ closeOf (seenBy (a .t .now) (asSession (k .session .result))) (a .s)
 says k =
     let a = k .before .before .args in
     close-says (a .t .now) (a .s) (asSession (k .session .result)) (k .session .ensures .0)

@@ -11,7 +11,8 @@ use Rattle.table.specs.Decode.{settingIn, decode}
 use Rattle.decision.specs.Found.{foundOf}
 use Rattle.decision.specs.Decided.{answered}
 use Rattle.decision.proofs.Places.{fits-get}
-use Rattle.decision.proofs.Ladders.{heardBy, storedBy, getOf, get-says}
+use Rattle.protocol.proofs.Ladders.{getOf}
+use Rattle.decision.proofs.Ladders.{seenBy, heardBy, storedBy, get-says}
 use borrow.Author.Needs.{needs}
 use Rattle.decision.proofs.sessions.get.Statement.{statement}
 use Rattle.decision.proofs.sessions.get.Tie as tie
@@ -20,7 +21,7 @@ use Rattle.decision.proofs.sessions.get.Tie as tie
 
 -- what is answered, by the session that was loaded
 says : (k : tie.After-session) → let a = k .before .before .args in
-    answered (decode (a .t .now)) (GET (a .s) (a .k)) ≡ getOf (a .t .now) (a .s) (a .k) (asSession (k .session .result))
+    answered (decode (a .t .now)) (GET (a .s) (a .k)) ≡ getOf (seenBy (a .t .now) (asSession (k .session .result))) (a .s) (a .k)
 says k =
     let a = k .before .before .args in
     get-says (a .t .now) (a .s) (asSession (k .session .result)) (k .session .ensures .0) (a .k)

@@ -15,7 +15,7 @@ use Rattle.table.specs.Decode.{settingIn, decode}
 use Rattle.table.specs.Values.{asMessage}
 use Rattle.lawful.proofs.Facts.{Formed, formed}
 use Rattle.decision.specs.Decided.{answered}
-use Rattle.decision.proofs.Ladders.{no as refuse}
+use Rattle.protocol.proofs.Ladders.{refuse}
 use Rattle.decision.proofs.Deliver.{firstIn, deliver-none, deliver-first}
 use Rattle.decision.proofs.writes.deliver.Statement.{statement}
 use Rattle.decision.proofs.writes.deliver.Tie as tie
