@@ -134,8 +134,8 @@ frontOf t i m p = frontIn (channelOf (siteOf t i) p (placeOf i m)) % 8
 abbrev pub Seen : Change → (t u : List ℕ) → Type 0
 Seen (SetSession s x) t u = Unit {0}
 Seen (SetClock m p c) t u = Unit {0}
-Seen (Publish m p x) t u = AlikeAt t u m × NextAlike t u m
-Seen (Receive i m p x) t u = AlikeAt t u m × (decode t .net .chan i m p ≡ decode u .net .chan i m p) × (frontOf t i m p ≡ frontOf u i m p)
+Seen (Publish m p x) t u = AlikeAt t u m × (p < settingIn t .parts) × NextAlike t u m
+Seen (Receive i m p x) t u = AlikeAt t u m × (p < settingIn t .parts) × (decode t .net .chan i m p ≡ decode u .net .chan i m p) × (frontOf t i m p ≡ frontOf u i m p)
 
 -- each change looks at the tables that those before it leave
 abbrev pub SeenAll : List Change → (t u : List ℕ) → Type 0
@@ -149,24 +149,25 @@ module _ (t u : List ℕ) where
   unfolding decode settingIn
   same-sites m a = ap (λ c. c .sites) (a .setting)
 
-  same-held : (m p : ℕ) → AlikeAt t u m → heldIn (nodeOf (siteOf t m) p) ≡ heldIn (nodeOf (siteOf u m) p)
-  same-held m p a = sym (store-length t m p) ∙ ap length (a .store p) ∙ store-length u m p
+  same-held : (m p : ℕ) → p < settingIn t .parts → AlikeAt t u m → heldIn (nodeOf (siteOf t m) p) ≡ heldIn (nodeOf (siteOf u m) p)
+  unfolding decode
+  same-held m p g a = sym (store-length t m p) ∙ ap length (a .store p (λ o. g)) ∙ store-length u m p
 
-  same-heard : (m p i : ℕ) → i < 4 → AlikeAt t u m → load 8 (nodeOf (siteOf t m) p) (8 + 8 * i) ≡ load 8 (nodeOf (siteOf u m) p) (8 + 8 * i)
+  same-heard : (m p i : ℕ) → p < settingIn t .parts → i < 4 → AlikeAt t u m → load 8 (nodeOf (siteOf t m) p) (8 + 8 * i) ≡ load 8 (nodeOf (siteOf u m) p) (8 + 8 * i)
   unfolding decode heardIn width
-  same-heard m p i h a = sym (loadVec-below (nodeOf (siteOf t m) p) 8 i h) ∙ a .heard p i ∙ loadVec-below (nodeOf (siteOf u m) p) 8 i h
+  same-heard m p i g h a = sym (loadVec-below (nodeOf (siteOf t m) p) 8 i h) ∙ a .heard p i (λ o. g) ∙ loadVec-below (nodeOf (siteOf u m) p) 8 i h
 
   -- as many messages wait from site i to site m
   same-wait : (i m p : ℕ) → m < 4 → (i ≡ m → ⊥) → length (decode t .net .chan i m p) ≡ length (decode u .net .chan i m p)
       → waitIn (channelOf (siteOf t i) p (placeOf i m)) ≡ waitIn (channelOf (siteOf u i) p (placeOf i m))
   same-wait i m p h d e = sym (chan-length t i m p h d) ∙ e ∙ chan-length u i m p h d
 
-  same-next : (n m p d : ℕ) → m < n → n ≤ 4 → p < 4 → d < n - 1 → AlikeAt t u m → NextAlike t u m → Next (channelOf (siteOf t m) p d) (channelOf (siteOf u m) p d)
-  unfolding NextAlike
-  same-next n m p d h few g b a next =
-      let o = other-at n m d h b in
-      let w = same-wait m (o .site) p (omega (arith, o .there)) (λ q. o .other (sym q)) (a .sent p (o .site)) in
-      record { wait = rw (← o .place) w; place = next p d g (omega arith) }
+  same-next : (m p d : ℕ) → m < load 1 t 0 → load 1 t 0 ≤ 4 → p < settingIn t .parts → d < load 1 t 0 - 1 → AlikeAt t u m → NextAlike t u m → Next (channelOf (siteOf t m) p d) (channelOf (siteOf u m) p d)
+  unfolding NextAlike decode settingIn
+  same-next m p d h few g b a next =
+      let o = other-at (load 1 t 0) m d h b in
+      let w = same-wait m (o .site) p (omega (arith, o .there)) (λ q. o .other (sym q)) (a .sent p (o .site) (λ y. g) (o .there)) in
+      record { wait = rw (← o .place) w; place = next p d g b }
 
 -- ---- something done to a session, a node, a channel of both tables
 
@@ -202,16 +203,17 @@ module _ (t u : List ℕ) (l : length t ≡ tableLength) (l′ : length u ≡ ta
       twin-atNode t u l l′ (clockSet c) m p h g (λ n e. length-clockSet c n ∙ e)
       (twin-put 8 0 c (twin-none (nodeOf (siteOf t m) p) (nodeOf (siteOf u m) p) (same-node t u l l′ m p h g)) .writes)
 
-  twin-publish : (m p : ℕ) (x : Msg) → FitsPublish m p x t → AlikeAt t u m → NextAlike t u m → Twin t (putChange (Publish m p x) t) u (putChange (Publish m p x) u)
+  twin-publish : (m p : ℕ) (x : Msg) → FitsPublish m p x t → Seen (Publish m p x) t u → Twin t (putChange (Publish m p x) t) u (putChange (Publish m p x) u)
   unfolding putChange
-  twin-publish m p x fit a next =
+  twin-publish m p x fit seen =
+      let a = seen .0 in
       let n = load 1 t 0 - 1 in
       let h : m < 4 = omega (arith, fit .site, fit .sites) in
       let b : n ≤ 3 = omega (arith, fit .sites) in
       rw (← same-sites t u m a)
       (twin-onSite (publishedOn n m p x) t u l l′ m h (publishedOn-keeps t n m p x l h (fit .part) b)
-      (twin-publishedOn m p x (fit .part) (siteOf t m) (siteOf u m) (length-site t m l h) (length-site u m l′ h) n b h (same-held t u m p a)
-      (λ d c. same-next t u (load 1 t 0) m p d (fit .site) (fit .sites) (fit .part) c a next) .writes))
+      (twin-publishedOn m p x (fit .part) (siteOf t m) (siteOf u m) (length-site t m l h) (length-site u m l′ h) n b h (same-held t u m p (seen .1) a)
+      (λ d c. same-next t u m p d (fit .site) (fit .sites) (seen .1) c a (seen .2)) .writes))
 
   -- the node stores and hears, then the message leaves the other site's channel, which is as it was
   twin-receive : (i m p : ℕ) (x : Msg) → FitsReceive i m p x t → Seen (Receive i m p x) t u → Twin t (putChange (Receive i m p x) t) u (putChange (Receive i m p x) u)
@@ -240,19 +242,19 @@ module _ (t u : List ℕ) (l : length t ≡ tableLength) (l′ : length u ≡ ta
 
       node : Twin (nodeOf (siteOf t m) p) (received i x (nodeOf (siteOf t m) p)) (nodeOf (siteOf u m) p) (received i x (nodeOf (siteOf u m) p))
       node =
-          twin-received (nodeOf (siteOf t m) p) (nodeOf (siteOf u m) p) i (fit .source) x (same-node t u l l′ m p (fit .site) (fit .part)) (same-held t u m p (seen .0))
-          (same-heard t u m p i (fit .source) (seen .0))
+          twin-received (nodeOf (siteOf t m) p) (nodeOf (siteOf u m) p) i (fit .source) x (same-node t u l l′ m p (fit .site) (fit .part)) (same-held t u m p (seen .1) (seen .0))
+          (same-heard t u m p i (seen .1) (fit .source) (seen .0))
 
       channel : Twin (channelOf (siteOf t i) p d) (popped (channelOf (siteOf t i) p d)) (channelOf (siteOf u i) p d) (popped (channelOf (siteOf u i) p d))
       channel =
           twin-popped (channelOf (siteOf t i) p d) (channelOf (siteOf u i) p d) (same-channel t u l l′ i p d (fit .source) (fit .part) b)
-          (same-wait t u i m p (fit .site) (fit .other) (ap length (seen .1))) (seen .2)
+          (same-wait t u i m p (fit .site) (fit .other) (ap length (seen .2))) (seen .3)
 
 twin-change : (c : Change) (t u : List ℕ) → length t ≡ tableLength → length u ≡ tableLength → Fits c t → Seen c t u → Twin t (putChange c t) u (putChange c u)
 unfolding putChange
 twin-change (SetSession s x) t u l l′ fit seen = twin-atSession t u l l′ s x (fit .0)
 twin-change (SetClock m p c) t u l l′ fit seen = twin-clock t u l l′ m p c (fit .0) (fit .1)
-twin-change (Publish m p x) t u l l′ fit seen = twin-publish t u l l′ m p x fit (seen .0) (seen .1)
+twin-change (Publish m p x) t u l l′ fit seen = twin-publish t u l l′ m p x fit seen
 twin-change (Receive i m p x) t u l l′ fit seen = twin-receive t u l l′ i m p x fit seen
 
 pub twin-changes : (cs : List Change) (t u : List ℕ) → length t ≡ tableLength → length u ≡ tableLength → FitsAll cs t → FitsAll cs u → SeenAll cs t u → Twin t (putChanges cs t) u (putChanges cs u)

@@ -1,22 +1,23 @@
--- What may influence a step, on bytes. In order: a step; what its changes look at; refusals and the call. Assumes nothing.
-use Prim.Native.Nat.{ℕ}
+-- What may influence a step, on bytes. In order: what a step's changes look at; refusals and the call.
+use Prim.Native.Nat.{ℕ, _<_}
+use native.Mathlib.Nat.{mod-lt}
 use mathlib.Core.Path.{_≡_, refl, sym, ap, subst, _∙_}
-use mathlib.Core.Bool.{Bool, true, false, not, _&&_}
-use mathlib.Core.List.{List, [], _∷_, _++_}
+use mathlib.Core.Bool.{Bool, true, false, _&&_}
+use mathlib.Core.List.{List, [], _∷_}
 use lib.Dec.{T, eqb}
 use lib.ListN.{length}
-use mir.Facts.{and-yes, yes-and}
+use mir.Facts.{and-yes, yes-and, ltb-yes}
 use Rattle.codec.specs.Le.{Bytes}
 use Rattle.codec.proofs.Tests.{cond-elim, same-test}
-use Rattle.protocol.specs.Record.{Msg}
+use Rattle.protocol.specs.Record.{Setting, partOf, Msg}
 use Rattle.protocol.specs.Event.{Event, OPEN, CLOSE, CLOCK, GET, PUT, BEGIN, READ, END, BEAT, DELIVER}
-use Rattle.protocol.specs.View.{Place, ofSession, atSite, onChannel, look, viewAt, view, place}
-use Rattle.protocol.specs.Needs.{beatSends, ranges, needs}
+use Rattle.protocol.specs.View.{view, place}
+use Rattle.protocol.specs.Needs.{ranges, beatSends, needs}
 use Rattle.protocol.specs.Change.{Receive}
-use Rattle.protocol.specs.Serve.{taken, serve}
-use Rattle.protocol.specs.Step.{decide, step}
+use Rattle.protocol.specs.Serve.{Outcome, taken, serve}
+use Rattle.protocol.specs.Step.{step}
 use Rattle.protocol.specs.Promises.{Alike}
-use Rattle.protocol.proofs.Judge.{Met, met-both, judge-elim}
+use Rattle.protocol.proofs.Judge.{Met, step-elim}
 use Rattle.protocol.proofs.Influence as Protocol
 use Rattle.event.specs.Event.{codeLawful, eventOf}
 use Rattle.event.specs.Fields.{unusedZero}
@@ -25,40 +26,14 @@ use Rattle.table.specs.Decode.{settingIn, decode}
 use Rattle.table.specs.Put.{putChanges}
 use Rattle.table.specs.Fits.{FitsAll}
 use Rattle.lawful.specs.WellFormed.{wellFormed}
+use Rattle.lawful.proofs.Facts.{formed}
 use Rattle.lawful.proofs.Fits.{step-fits}
 use Rattle.steps.specs.Step.{Called, gives, need, stepOn}
 use Rattle.archive.specs.Call.{stepCall}
 use Rattle.archive.specs.Story.{isEvent}
-use Rattle.archive.specs.Influence.{SameWrites, SameStep, AgreeOn, Influenced}
+use Rattle.archive.specs.Influence.{RingsAlike, AgreeOn, SameWrites, SameStep, Influenced}
 use Rattle.archive.proofs.Writes.{writes-none}
 use Rattle.archive.proofs.Changes.{Seen, SeenAll, twin-changes}
-use Rattle.archive.proofs.Closed.{shut-alike}
-
--- ---- a step
-
-module _ (t u : List ℕ) (q : settingIn t ≡ settingIn u) where
-  shut-step : (e : Event) (s : ℕ) → place e ≡ ofSession s → decode t .session s ≡ decode u .session s → T (not (decode t .session s .isOpen)) → step (decode t) e ≡ step (decode u) e
-  unfolding step view viewAt
-  shut-step e s d a z =
-      rw d
-      (shut-alike (decode t .net) (decode u .net) (decode t .session s) (decode t .session s .site) (decode t .session s .site) (unfold decode in q) z e s d
-      ∙ ap (λ x. decide (look (decode u .net) x (x .site) []) e) a)
-
-  agree-step : (e : Event) → AgreeOn t u (place e) → step (decode t) e ≡ step (decode u) e
-  unfolding AgreeOn Alike
-  agree-step e = go (place e) refl
-    where
-      seen : (P : Place) → place e ≡ P → Alike (decode t) (decode u) P → step (decode t) e ≡ step (decode u) e
-      seen P d a = Protocol.influenced (decode t) (decode u) e (subst (Alike (decode t) (decode u)) (sym d) a)
-
-      session : (s : ℕ) → place e ≡ ofSession s → AgreeOn t u (ofSession s) → (b : Bool) → (T b → T (decode t .session s .isOpen)) → (T (not b) → T (not (decode t .session s .isOpen))) → step (decode t) e ≡ step (decode u) e
-      session s d a true f g = seen (ofSession s) d (a .0, a .1 (f tt) .0)
-      session s d a false f g = shut-step e s d (a .0) (g tt)
-
-      go : (P : Place) → place e ≡ P → AgreeOn t u P → step (decode t) e ≡ step (decode u) e
-      go (ofSession s) d a = session s d a (decode t .session s .isOpen) (λ y. y) (λ y. y)
-      go (atSite m) d a = seen (atSite m) d (a .0)
-      go (onChannel i m p) d a = seen (onChannel i m p) d (a .0)
 
 -- ---- what its changes look at
 
@@ -67,25 +42,31 @@ unfolding taken
 taken-seen t u i m p [] f = tt
 taken-seen t u i m p (x ∷ l) f = (f x, tt)
 
-module _ (t u : List ℕ) where
-  agree-serve : (e : Event) → AgreeOn t u (place e) → Met (needs (view (decode t) e) e) → SeenAll (serve (view (decode t) e) e .changes) t u
-  unfolding place view viewAt look serve needs AgreeOn Alike
-  agree-serve (OPEN s m) a met = (tt, tt)
-  agree-serve (CLOSE s) a met = (tt, tt)
-  agree-serve (CLOCK m p c) a met = (tt, tt)
-  agree-serve (GET s k) a met = (tt, tt)
-  agree-serve (PUT s k h l) a met = (a .1 (met .0), (tt, tt))
-  agree-serve (BEGIN s p ks) a met = (tt, tt)
-  agree-serve (READ s k) a met = (tt, tt)
-  agree-serve (END s) a met = (tt, tt)
-  agree-serve (BEAT m p) a met = cond-elim (λ cs. SeenAll cs t u) (beatSends (decode t .net .heard m p m) (decode t .net .clock m p)) (λ b. (a, tt)) (λ b. tt)
-  agree-serve (DELIVER i m p) a met = taken-seen t u i m p (decode t .net .chan i m p) (λ x. (a .0 .0, a .0 .1, a .1))
+module _ (t u : List ℕ) (parts : 0 < settingIn t .parts) where
+  abbrev c : Setting
+  c = settingIn t
+
+  part-lt : (k : ℕ) → partOf c k < c .parts
+  unfolding partOf
+  part-lt k = mod-lt k parts
+
+  agree-serve : (e : Event) → AgreeOn t u (place e) → Met (ranges c e) → Met (needs (view (decode t) e) e) → SeenAll (serve (view (decode t) e) e .changes) t u
+  unfolding ranges serve needs Alike RingsAlike decode
+  agree-serve (OPEN s m) a r met = (tt, tt)
+  agree-serve (CLOSE s) a r met = (tt, tt)
+  agree-serve (CLOCK m p time) a r met = (tt, tt)
+  agree-serve (GET s k) a r met = (tt, tt)
+  agree-serve (PUT s k h l) a r met = ((a .0 .2 (met .0), part-lt k, a .1 (met .0)), (tt, tt))
+  agree-serve (BEGIN s p ks) a r met = (tt, tt)
+  agree-serve (READ s k) a r met = (tt, tt)
+  agree-serve (END s) a r met = (tt, tt)
+  agree-serve (BEAT m p) a r met =
+      cond-elim (λ cs. SeenAll cs t u) (beatSends (decode t .net .heard m p m) (decode t .net .clock m p)) (λ b. ((a .0, ltb-yes (r .1 .0), a .1), tt)) (λ b. tt)
+  agree-serve (DELIVER i m p) a r met = taken-seen t u i m p (decode t .net .chan i m p) (λ x. (a .0 .0, ltb-yes (r .1 .0), a .0 .1, a .1))
 
   agree-seen : (e : Event) → AgreeOn t u (place e) → SeenAll (step (decode t) e .changes) t u
-  unfolding step decide
-  agree-seen e a =
-      let v = view (decode t) e in
-      judge-elim (λ o. SeenAll (o .changes) t u) (ranges (v .setting) e ++ needs v e) (serve v e) (λ n. tt) (λ met. agree-serve e a (met-both (ranges (v .setting) e) (needs v e) met .1))
+  unfolding decode
+  agree-seen e a = step-elim (decode t) e (λ (o : Outcome). SeenAll (o .changes) t u) (λ w. tt) (λ r met. agree-serve e a r met)
 
 -- ---- refusals and the call
 
@@ -120,5 +101,6 @@ module _ (t u : List ℕ) (l : length t ≡ tableLength) (l′ : length u ≡ ta
       (λ z. f (yes-and (eqb (length e) 32) (codeLawful e && unusedZero e) (and-yes (eqb (length t) tableLength) (eqb (length e) 32) x .1) (yes-and (codeLawful e) (unusedZero e) c z))))))
 
 pub influenced : Influenced
-influenced t u e l l′ b b′ w w′ q a =
-    same-call t u l l′ b b′ w w′ e (λ i. same-changes t u l l′ b b′ w w′ (eventOf e) (agree-step t u q (eventOf e) (a i)) (agree-seen t u (eventOf e) (a i)))
+influenced t u e l l′ b b′ w w′ q a = same-call t u l l′ b b′ w w′ e (λ i.
+    let agree = a i in
+    same-changes t u l l′ b b′ w w′ (eventOf e) (Protocol.influenced (decode t) (decode u) (eventOf e) (agree .0)) (agree-seen t u (formed t w .part) (eventOf e) agree))

@@ -1,22 +1,16 @@
 -- Demand 1 on bytes: a call that refuses or waits leaves every byte of the table as it was. Assumes nothing.
 use Prim.Native.Nat.{ℕ}
+use native.Mathlib.Omega.{arith}
 use mathlib.Core.Path.{_≡_, refl, ap}
 use mathlib.Core.Bool.{_&&_}
-use mathlib.Core.List.{List, [], _++_}
+use mathlib.Core.List.{List}
 use lib.Dec.{eqb}
 use lib.ListN.{length}
-use native.Mathlib.Omega.{arith}
 use Rattle.codec.proofs.Tests.{cond-elim}
-use Rattle.protocol.specs.State.{State}
-use Rattle.protocol.specs.Event.{Event}
 use Rattle.protocol.specs.declared.Refusal.{Refusal}
 use Rattle.protocol.specs.declared.Answer.the-variants.{Done, Refused}
-use Rattle.protocol.specs.View.{view}
-use Rattle.protocol.specs.Needs.{ranges, needs}
-use Rattle.protocol.specs.Serve.{Outcome, serve}
-use Rattle.protocol.specs.Step.{decide, step}
-use Rattle.protocol.proofs.Judge.{judge-elim}
-use Rattle.protocol.proofs.Influence.{Unserved, serve-is-served}
+use Rattle.protocol.specs.Step.{step}
+use Rattle.protocol.proofs.Influence.{refused-still}
 use Rattle.event.specs.Event.{codeLawful, eventOf}
 use Rattle.event.specs.Fields.{unusedZero}
 use Rattle.table.specs.Parts.{tableLength}
@@ -28,19 +22,12 @@ use Rattle.steps.specs.Step.{Called, gives, stepOn}
 use Rattle.archive.specs.Call.{stepCall, setupCall}
 use Rattle.archive.specs.Promises.{Untouched, UntouchedSetup}
 
--- the protocol's refusals and waits have no changes
-no-changes : (S : State) (e : Event) (w : Refusal) → step S e .says ≡ Refused w → step S e .changes ≡ []
-unfolding step decide Unserved
-no-changes S e w =
-    judge-elim (λ (o : Outcome). o .says ≡ Refused w → o .changes ≡ []) (ranges (view S e .setting) e ++ needs (view S e) e) (serve (view S e) e) (λ n z. refl)
-    (λ t z. absurd (serve-is-served (view S e) e (rw z tt)))
-
 abbrev Still : List ℕ → Refusal → Called → Type 0
 Still t w c = c .answer ≡ Refused w → c .table ≡ t
 
 step-still : (t e : List ℕ) (w : Refusal) → Still t w (gives (step (decode t) (eventOf e) .says) (putChanges (step (decode t) (eventOf e) .changes) t))
 unfolding putChanges
-step-still t e w z = ap (λ cs. putChanges cs t) (no-changes (decode t) (eventOf e) w z)
+step-still t e w z = ap (λ cs. putChanges cs t) (refused-still (decode t) (eventOf e) w z)
 
 pub untouched-bytes : Untouched
 unfolding stepCall stepOn

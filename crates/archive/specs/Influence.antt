@@ -1,5 +1,5 @@
 -- What may influence a step, on bytes: when two tables agree on all that document 01 lets an event look at, and what is then the same. Assumes nothing.
-use Prim.Native.Nat.{ℕ, _+_, _%_, _<_}
+use Prim.Native.Nat.{ℕ, _+_, _-_, _%_, _<_}
 use mathlib.Core.Path.{_≡_}
 use mathlib.Core.Logic.{_⊎_}
 use mathlib.Core.List.{List}
@@ -7,7 +7,7 @@ use lib.Dec.{T}
 use lib.ListN.{length, getD}
 use Rattle.codec.specs.Le.{Bytes}
 use Rattle.protocol.specs.View.{Place, ofSession, atSite, onChannel, place}
-use Rattle.protocol.specs.Promises.{SiteAlike, Alike}
+use Rattle.protocol.specs.Promises.{Alike}
 use Rattle.event.specs.Event.{eventOf}
 use Rattle.parts.specs.Channel.{frontIn, waitIn}
 use Rattle.table.specs.Parts.{tableLength, placeOf, siteOf, channelOf}
@@ -17,19 +17,20 @@ use Rattle.steps.specs.Step.{Called}
 use Rattle.archive.specs.Call.{stepCall}
 use Rattle.archive.specs.Story.{isEvent}
 
--- where the next message goes, in each outgoing channel of site m
+-- where the next message goes, in each channel of site m to another site
 unfoldable pub NextAlike : List ℕ → List ℕ → (m : ℕ) → Type 0
-NextAlike t u m = (p d : ℕ) → p < 4 → d < 3 →
+NextAlike t u m = (p d : ℕ) → p < settingIn t .parts → d < settingIn t .sites - 1 →
     (frontIn (channelOf (siteOf t m) p d) + waitIn (channelOf (siteOf t m) p d)) % 8 ≡ (frontIn (channelOf (siteOf u m) p d) + waitIn (channelOf (siteOf u m) p d)) % 8
 
--- the tables agree on what an event may look at: its session and, where that is open, the session's site; its site; or its site and its channel, with
--- the place of that channel's front
-unfoldable pub AgreeOn : (t u : List ℕ) → Place → Type 0
-AgreeOn t u (ofSession s) =
-    (decode t .session s ≡ decode u .session s) × (T (decode t .session s .isOpen) → SiteAlike (decode t .net) (decode u .net) (decode t .session s .site) × NextAlike t u (decode t .session s .site))
-AgreeOn t u (atSite m) = SiteAlike (decode t .net) (decode u .net) m × NextAlike t u m
-AgreeOn t u (onChannel i m p) =
-    Alike (decode t) (decode u) (onChannel i m p) × (frontIn (channelOf (siteOf t i) p (placeOf i m)) % 8 ≡ frontIn (channelOf (siteOf u i) p (placeOf i m)) % 8)
+-- where messages go, and where the one to be delivered is
+unfoldable pub RingsAlike : (t u : List ℕ) → Place → Type 0
+RingsAlike t u (ofSession s) = T (decode t .session s .isOpen) → NextAlike t u (decode t .session s .site)
+RingsAlike t u (atSite m) = NextAlike t u m
+RingsAlike t u (onChannel i m p) = frontIn (channelOf (siteOf t i) p (placeOf i m)) % 8 ≡ frontIn (channelOf (siteOf u i) p (placeOf i m)) % 8
+
+-- the tables agree on what an event may look at
+abbrev pub AgreeOn : (t u : List ℕ) → Place → Type 0
+AgreeOn t u w = Alike (decode t) (decode u) w × RingsAlike t u w
 
 -- at every place either both are as they were, or both got the same byte
 unfoldable pub SameWrites : (t t′ u u′ : List ℕ) → Type 0

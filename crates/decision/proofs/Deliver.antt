@@ -1,21 +1,23 @@
--- What DELIVER is answered, in the words of the bytes. In order: a channel's queue where nothing waits and where something does, what is answered to
--- a queue, and both together. Assumes nothing.
+-- What DELIVER is answered, in the words of the bytes. In order: a channel's queue where nothing waits and where something does, and what is
+-- answered.
 use Prim.Native.Nat.{ℕ, suc, _-_, _<_}
 use native.Mathlib.Omega.{arith}
-use mathlib.Core.Path.{_≡_, refl, ap, _∙_}
-use mathlib.Core.Bool.{Bool, true, false, cond, not, _&&_, _||_}
+use mathlib.Core.Path.{_≡_, ap, _∙_}
+use mathlib.Core.Bool.{cond, not, _&&_}
 use mathlib.Core.List.{List, [], _∷_}
-use borrow.Author.Tests.{lt-ltb, ne-eqb}
 use lib.Dec.{ltb}
+use borrow.Author.Tests.{lt-ltb, ne-eqb}
 use Rattle.codec.specs.Tabulate.{tabulate}
-use Rattle.protocol.specs.Record.{Msg, Update, Beat}
+use Rattle.protocol.specs.Record.{Msg}
+use Rattle.protocol.specs.State.{closed}
 use Rattle.protocol.specs.Event.{DELIVER}
-use Rattle.protocol.specs.View.{place, look, viewAt, view}
-use Rattle.protocol.specs.Needs.{isEmpty, frontUpdates, needs}
+use Rattle.protocol.specs.Needs.{frontUpdates}
 use Rattle.protocol.specs.Change.{Receive}
-use Rattle.protocol.specs.Serve.{Outcome, _and_, taken, serve}
-use Rattle.protocol.specs.Step.{judge}
+use Rattle.protocol.specs.Serve.{_and_}
+use Rattle.protocol.specs.Step.{judged}
 use Rattle.protocol.specs.declared.Answer.the-variants.{Done}
+use Rattle.protocol.proofs.Ladders.{refuse}
+use Rattle.protocol.proofs.Ladders as Protocol
 use Rattle.record.specs.RecordBytes.{messageAt}
 use Rattle.parts.specs.Node.{heldIn}
 use Rattle.parts.specs.Channel.{ringAt, frontIn, waitIn, queueIn}
@@ -23,7 +25,7 @@ use Rattle.table.specs.Parts.{placeOf, siteOf, nodeOf, channelOf}
 use Rattle.table.specs.Decode.{decode}
 use Rattle.decision.specs.Answered.{answered}
 use Rattle.decision.proofs.Room.{store-room}
-use Rattle.decision.proofs.Ladders.{no as refuse}
+use Rattle.decision.proofs.Ladders.{sight}
 
 -- ---- a channel's queue
 
@@ -41,43 +43,25 @@ queue-some c h =
     let e : waitIn c ≡ suc (waitIn c - 1) = omega arith in
     ap (λ n. tabulate n (λ k. messageAt c (ringAt (frontIn c) k))) e
 
-module _ (t : List ℕ) (i m p : ℕ) where
-  -- ---- to a queue
+-- ---- what is answered, by the channel's bytes
 
-  abbrev slot : Bool
-  slot = ltb (heldIn (nodeOf (siteOf t m) p)) 32
+module _ (t : List ℕ) (i m p : ℕ) (h : m < 4) (d : i ≡ m → ⊥) where
+  abbrev c : List ℕ
+  c = channelOf (siteOf t i) p (placeOf i m)
 
-  abbrev answeredTo : List Msg → Outcome
-  answeredTo l = cond (not (isEmpty l)) (cond (not (frontUpdates l) || slot) (Done and taken i m p l) (refuse 22)) (refuse 20)
+  chan-is : decode t .net .chan i m p ≡ queueIn c
+  unfolding decode
+  chan-is = rw (lt-ltb m 4 h, ne-eqb i m d)
 
-  answered-to : (l : List Msg) → decode t .net .chan i m p ≡ l → answered (decode t) (DELIVER i m p) ≡ answeredTo l
-  unfolding answered judge needs serve view viewAt place look
-  answered-to l e = rw (e, store-room t m p)
+  channel-says : answered (decode t) (DELIVER i m p) ≡ judged (sight t closed m (queueIn c)) (DELIVER i m p)
+  unfolding answered decode
+  channel-says = ap (λ l. judged (sight t closed m l) (DELIVER i m p)) chan-is
 
-  to-first : (x : Msg) (l : List Msg) → answeredTo (x ∷ l) ≡ cond (frontUpdates (x ∷ []) && not slot) (refuse 22) (Done and Receive i m p x ∷ [])
-  unfolding isEmpty frontUpdates taken
-  to-first (Update r) l = go slot
-    where
-      go : (b : Bool) → cond b (Done and Receive i m p (Update r) ∷ []) (refuse 22) ≡ cond (not b) (refuse 22) (Done and Receive i m p (Update r) ∷ [])
-      go true = refl
-      go false = refl
-  to-first (Beat s) l = refl
+  pub deliver-none : waitIn c ≡ 0 → answered (decode t) (DELIVER i m p) ≡ refuse 20
+  deliver-none e = channel-says ∙ Protocol.deliver-none (sight t closed m (queueIn c)) i m p (queue-none c e)
 
-  -- ---- by the channel's bytes
-
-  module _ (h : m < 4) (d : i ≡ m → ⊥) where
-    abbrev c : List ℕ
-    c = channelOf (siteOf t i) p (placeOf i m)
-
-    pub chan-is : decode t .net .chan i m p ≡ queueIn c
-    unfolding decode
-    chan-is = rw (lt-ltb m 4 h, ne-eqb i m d)
-
-    pub deliver-none : waitIn c ≡ 0 → answered (decode t) (DELIVER i m p) ≡ refuse 20
-    unfolding isEmpty
-    deliver-none e = answered-to [] (chan-is ∙ queue-none c e)
-
-    pub deliver-first : 0 < waitIn c → answered (decode t) (DELIVER i m p) ≡ cond (frontUpdates (firstIn c ∷ []) && not slot) (refuse 22) (Done and Receive i m p (firstIn c) ∷ [])
-    deliver-first w =
-        let rest = tabulate (waitIn c - 1) (λ k. messageAt c (ringAt (frontIn c) (suc k))) in
-        answered-to (firstIn c ∷ rest) (chan-is ∙ queue-some c w) ∙ to-first (firstIn c) rest
+  pub deliver-first : 0 < waitIn c →
+      answered (decode t) (DELIVER i m p) ≡ cond (frontUpdates (firstIn c ∷ []) && not (ltb (heldIn (nodeOf (siteOf t m) p)) 32)) (refuse 22) (Done and Receive i m p (firstIn c) ∷ [])
+  deliver-first w =
+      let rest = tabulate (waitIn c - 1) (λ k. messageAt c (ringAt (frontIn c) (suc k))) in
+      channel-says ∙ Protocol.deliver-first (sight t closed m (queueIn c)) i m p (firstIn c) rest (queue-some c w) ∙ rw (store-room t m p)

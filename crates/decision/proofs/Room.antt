@@ -16,18 +16,18 @@ use Rattle.codec.proofs.Tests.{yes-or-l, yes-or-r, same-test}
 use Rattle.codec.proofs.Below.{all-below-at, all-below}
 use Rattle.protocol.specs.Record.{Msg}
 use Rattle.protocol.specs.State.{Session}
-use Rattle.protocol.specs.View.{look}
 use Rattle.protocol.specs.Needs.{storeRoom, sendRoom}
-use Rattle.parts.specs.Node.{heldIn}
+use Rattle.parts.specs.Node.{heldIn, storeIn}
 use Rattle.parts.specs.Channel.{waitIn}
 use Rattle.table.specs.Parts.{placeOf, siteOf, nodeOf, channelOf}
 use Rattle.table.specs.Decode.{settingIn, decode}
 use Rattle.table.proofs.Changes.{place-lt}
 use Rattle.lawful.proofs.Facts.{store-length}
 use Rattle.lawful.proofs.Fits.{Other, other-at, chan-length}
+use Rattle.decision.proofs.Ladders.{sight}
 
-pub store-room : (t : List ℕ) (m p : ℕ) → storeRoom (decode t .net .store m p) ≡ ltb (heldIn (nodeOf (siteOf t m) p)) 32
-unfolding storeRoom
+pub store-room : (t : List ℕ) (m p : ℕ) → storeRoom (storeIn (nodeOf (siteOf t m) p)) ≡ ltb (heldIn (nodeOf (siteOf t m) p)) 32
+unfolding storeRoom decode
 store-room t m p = ap (λ k. ltb k 32) (store-length t m p)
 
 -- each outgoing channel of node (m, p) has a free place
@@ -65,6 +65,6 @@ module _ (t : List ℕ) (m p : ℕ) (h : m < load 1 t 0) (few : load 1 t 0 ≤ 4
           let free = ⊎-elim (λ e. absurd (o .other (eqb-yes e))) (λ r. r) both in
           subst (λ k. T (byPlace k)) (o .place) (subst T (site-place j (omega arith) (λ e. o .other (sym e))) free)
 
-  pub send-room : (x : Session) (l : List Msg) → sendRoom (look (decode t .net) x m l) m p ≡ roomy t m p
-  unfolding sendRoom look roomy settingIn decode
+  pub send-room : (x : Session) (l : List Msg) → sendRoom (sight t x m l) m p ≡ roomy t m p
+  unfolding sendRoom roomy settingIn
   send-room x l = same-test (allBelow (load 1 t 0) bySite) (allBelow (load 1 t 0 - 1) byPlace) sites-places places-sites

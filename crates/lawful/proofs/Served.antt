@@ -3,10 +3,10 @@
 use Prim.Native.Nat.{ℕ, _^_, _≤_, _<_}
 use native.Mathlib.Nat.{mod-lt}
 use native.Mathlib.Omega.{arith}
-use mathlib.Core.Path.{_≡_, refl, ap, subst}
+use mathlib.Core.Path.{_≡_, refl, ap}
 use mathlib.Core.Logic.{⊎-elim}
 use mathlib.Core.Bool.{Bool, not, _||_}
-use mathlib.Core.List.{List, [], _∷_, _++_, List·Memᴰ·head}
+use mathlib.Core.List.{List, [], _∷_, List·Memᴰ·head}
 use mathlib.Core.Option.{Option, some, none}
 use lib.Dec.{T, leb, ltb, eqb}
 use lib.IntN.{ℤ}
@@ -18,13 +18,13 @@ use Rattle.vector.specs.Vec.{Vec, zeros, larger, withEntry}
 use Rattle.protocol.specs.Record.{Setting, partOf, Rec, Msg, Update, Beat, newest, ofKey, fitsPage, raisedBy}
 use Rattle.protocol.specs.State.{Mark, Page, Session, State, noPage, closed, opened}
 use Rattle.protocol.specs.Event.{Event, OPEN, CLOSE, CLOCK, GET, PUT, BEGIN, READ, END, BEAT, DELIVER}
-use Rattle.protocol.specs.View.{View, view, viewAt, place, look}
+use Rattle.protocol.specs.View.{View, view}
 use Rattle.protocol.specs.Needs.{levelLawful, keysLawful, distinct, ranges, needs, beatSends, storeRoom, sendRoom, frontUpdates}
 use Rattle.protocol.specs.Change.{Change, SetSession, SetClock, Publish, Receive, apply, publish}
 use Rattle.protocol.specs.Serve.{written, unread, markRead, begun, readOn, taken, serve}
-use Rattle.protocol.specs.Step.{decide, step}
+use Rattle.protocol.specs.Step.{step}
 use Rattle.protocol.specs.Past.{_∈_}
-use Rattle.protocol.proofs.Judge.{Met, met-both, judge-elim}
+use Rattle.protocol.proofs.Judge.{Met, step-elim}
 use Rattle.protocol.proofs.Order.{NewestOf, newest-is}
 use Rattle.record.proofs.Ranges.{LawfulVec, zeros-lawful, larger-lawful, with-entry-lawful, raised-lawful, LawfulRec, LawfulMsg}
 use Rattle.lawful.specs.Values.{keysOf}
@@ -200,7 +200,7 @@ module _ (S : State) (ok : LawfulState S) where
       (record { source = a; site = b; other = d; part = e; msg = all y (List·Memᴰ·head refl); room = front-room y q (S .net .store m p) room }, tt)
 
   serve-lawful : (e : Event) → Met (ranges c e) → Met (needs (view S e) e) → LawfulAll (serve (view S e) e .changes) S
-  unfolding serve needs ranges view viewAt place look
+  unfolding serve needs ranges
   serve-lawful (OPEN s m) r t = ((ltb-yes (r .1 .0), opened-lawful c m zeros noPage (ok .sites) (ltb-yes (r .0)) (zeros-lawful c) (no-page-lawful c)), tt)
   serve-lawful (CLOSE s) r t = ((ltb-yes (r .0), closed-lawful c), tt)
   serve-lawful (CLOCK m p u) r t = ((ltb-yes (r .0), ltb-yes (r .1 .0), ltb-yes (r .1 .1 .0)), tt)
@@ -256,23 +256,5 @@ module _ (S : State) (ok : LawfulState S) where
       let source : i < c .sites = ltb-yes (from .0) in
       take-set i m p (S .net .chan i m p) source site (eqb-no (from .1)) part (ok .chan i m p (omega (arith, ok .sites)) (omega (arith, ok .parts))) (t .1 .0)
 
-view-setting : (S : State) (e : Event) → view S e .setting ≡ S .net .setting
-unfolding view viewAt place look
-view-setting S (OPEN s m) = refl
-view-setting S (CLOSE s) = refl
-view-setting S (CLOCK m p t) = refl
-view-setting S (GET s k) = refl
-view-setting S (PUT s k q l) = refl
-view-setting S (BEGIN s p ks) = refl
-view-setting S (READ s k) = refl
-view-setting S (END s) = refl
-view-setting S (BEAT m p) = refl
-view-setting S (DELIVER i m p) = refl
-
 pub step-lawful : (S : State) → LawfulState S → (e : Event) → LawfulAll (step S e .changes) S
-unfolding step decide
-step-lawful S ok e =
-    judge-elim (λ o. LawfulAll (o .changes) S) (ranges (view S e .setting) e ++ needs (view S e) e) (serve (view S e) e) (λ w. tt)
-    (λ t.
-    let u = met-both (ranges (view S e .setting) e) (needs (view S e) e) t in
-    serve-lawful S ok e (subst (λ c. Met (ranges c e)) (view-setting S e) (u .0)) (u .1))
+step-lawful S ok e = step-elim S e (λ o. LawfulAll (o .changes) S) (λ w. tt) (serve-lawful S ok e)

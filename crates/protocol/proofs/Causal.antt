@@ -2,21 +2,20 @@
 use Prim.Native.Nat.{ℕ}
 use mathlib.Core.Path.{_≡_, sym, ap, subst, _∙_}
 use mathlib.Core.Bool.{Bool, true, false, not}
-use mathlib.Core.List.{List, [], _++_, List·Memᴰ·not-nil}
+use mathlib.Core.List.{List, [], List·Memᴰ·not-nil}
 use lib.Dec.{T}
 use Rattle.protocol.specs.Record.{Setting, partOf, Id, Rec, newest, ofKey}
 use Rattle.protocol.specs.State.{Session, State, setup}
 use Rattle.protocol.specs.Event.{GET, Answer, Refusal, Refused, shown}
-use Rattle.protocol.specs.View.{view, viewAt, place, look}
-use Rattle.protocol.specs.Needs.{ranges, needs}
+use Rattle.protocol.specs.Needs.{needs}
 use Rattle.protocol.specs.Serve.{serve}
-use Rattle.protocol.specs.Step.{decide, step, after, log}
+use Rattle.protocol.specs.Step.{step, after, log}
 use Rattle.protocol.specs.Past.{_∈_, Write, Entry, History, served, shownIn, writerPast, history}
 use Rattle.protocol.specs.Causal.{Covers, CoversAll, Genuine, GetCausal, PageCausal}
 use Rattle.protocol.specs.Promises.{CausalGet, CausalPage}
 use Rattle.protocol.proofs.Setting.{run-setting}
 use Rattle.protocol.proofs.Order.{newest-is}
-use Rattle.protocol.proofs.Judge.{judge-elim}
+use Rattle.protocol.proofs.Judge.{step-elim}
 use Rattle.protocol.proofs.Invariant.{Below, AllBelow, Shows, PageInv, Told, Inv}
 use Rattle.protocol.proofs.Sessions.{below-up, writer-below, search-shows, get-covers}
 use Rattle.protocol.proofs.Steps.{run-inv}
@@ -35,15 +34,15 @@ unfolding Genuine shownIn served
 refused-get c h s k w = record { genuine = λ y m. absurd (List·Memᴰ·not-nil m); covers = λ f. absurd f }
 
 inv-get : (S : State) (h : History) → Inv S h → (s k : ℕ) → GetCausal (S .net .setting) h s k (step S (GET s k) .says)
-unfolding step decide serve ranges needs view viewAt place look
-inv-get S h J s k = judge-elim (λ o. GetCausal (S .net .setting) h s k (o .says)) (ranges (S .net .setting) (GET s k) ++ needs (view S (GET s k)) (GET s k)) (serve (view S (GET s k)) (GET s k)) (λ w. refused-get (S .net .setting) h s k w)
-    (λ t. let N = S .net in
+unfolding serve needs
+inv-get S h J s k = step-elim S (GET s k) (λ o. GetCausal (S .net .setting) h s k (o .says)) (λ w. refused-get (S .net .setting) h s k w)
+    (λ r t. let N = S .net in
     let x = S .session s in
     let p = partOf (N .setting) k in
     let o = newest (N .setting) (ofKey k) (N .store (x .site) p) in
     record {
       genuine = genuine-is (h .writes) (J .all) (J .told) k (shown o) (search-shows N (J .all) (J .net) k (ofKey k) (λ r u. u) (x .site) p o (newest-is (N .setting) (ofKey k) (N .store (x .site) p)));
-      covers = λ a. get-covers N (J .all) (J .net) (h .of s) x (J .sessions s) (t .1 .1 .0) k (t .1 .1 .1 .1 .0);
+      covers = λ a. get-covers N (J .all) (J .net) (h .of s) x (J .sessions s) (t .0) k (t .1 .1 .0);
     })
 
 -- on an open page every READ stands against the reader's past and the past of every record on it

@@ -11,15 +11,15 @@ use Rattle.codec.proofs.Tests.{cond-elim}
 use Rattle.protocol.specs.Record.{partOf, Rec, Msg, Update, Beat}
 use Rattle.protocol.specs.State.{Net, State, setup}
 use Rattle.protocol.specs.Event.{Event, OPEN, CLOSE, CLOCK, GET, PUT, BEGIN, READ, END, BEAT, DELIVER, Answer, Refusal, Refused}
-use Rattle.protocol.specs.View.{view, viewAt, place, look}
-use Rattle.protocol.specs.Needs.{beatSends, frontUpdates, ranges, needs}
+use Rattle.protocol.specs.View.{view}
+use Rattle.protocol.specs.Needs.{beatSends, frontUpdates}
 use Rattle.protocol.specs.Change.{Change, at, setClock, publish, receive, apply, applyAll}
 use Rattle.protocol.specs.Serve.{Outcome, _and_, written, taken, serve}
-use Rattle.protocol.specs.Step.{decide, step, next, after}
+use Rattle.protocol.specs.Step.{step, next, after}
 use Rattle.protocol.specs.Past.{served}
 use Rattle.protocol.specs.Count.{waiting, puts, delivers, count}
 use Rattle.protocol.specs.Promises.{Conserved}
-use Rattle.protocol.proofs.Judge.{judge-elim}
+use Rattle.protocol.proofs.Judge.{step-elim}
 use Rattle.protocol.proofs.Setting.{next-setting}
 use Rattle.protocol.proofs.Network.{at-yes}
 
@@ -94,7 +94,7 @@ module _ (i m p : ℕ) (apart : i ≢ m) where
       go false f = refl
 
   serve-balance : (S : State) (e : Event) → m < S .net .setting .sites → Balance S i m p e (serve (view S e) e)
-  unfolding serve view viewAt place look apply applyAll setClock puts delivers served written
+  unfolding serve apply applyAll setClock puts delivers served written
   serve-balance S (OPEN s j) l = refl
   serve-balance S (CLOSE s) l = refl
   serve-balance S (CLOCK j q t) l = refl
@@ -112,8 +112,7 @@ module _ (i m p : ℕ) (apart : i ≢ m) where
   refused-balance S e w = refl
 
   step-balance : (S : State) (e : Event) → m < S .net .setting .sites → Balance S i m p e (step S e)
-  unfolding step decide
-  step-balance S e l = judge-elim (Balance S i m p e) (ranges (view S e .setting) e ++ needs (view S e) e) (serve (view S e) e) (refused-balance S e) (λ t. serve-balance S e l)
+  step-balance S e l = step-elim S e (Balance S i m p e) (refused-balance S e) (λ r t. serve-balance S e l)
 
   -- ---- many
 

@@ -3,6 +3,8 @@ pub mod Order
 pub mod Search
 pub mod Places
 pub mod Judge
+pub mod Front
+pub mod Ladders
 pub mod Invariant
 pub mod Network
 pub mod Sessions

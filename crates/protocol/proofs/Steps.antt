@@ -16,14 +16,14 @@ use Rattle.vector.proofs.Vec.{LeV, le-largest, with-entry-same, with-entry-up}
 use Rattle.protocol.specs.Record.{Setting, partOf, Id, Rec, Msg, Update, Beat, stampIn, recordsIn, newest, ofKey, fitsPage, raisedBy}
 use Rattle.protocol.specs.State.{Net, Session, State, noPage, closed, opened, setup}
 use Rattle.protocol.specs.Event.{Event, OPEN, CLOSE, CLOCK, GET, PUT, BEGIN, READ, END, BEAT, DELIVER, Answer, shown}
-use Rattle.protocol.specs.View.{view, viewAt, place, look}
+use Rattle.protocol.specs.View.{view}
 use Rattle.protocol.specs.Needs.{putReady, beatSends, ranges, needs}
 use Rattle.protocol.specs.Change.{SetSession, Publish, apply, applyAll, setClock, publish, receive}
 use Rattle.protocol.specs.Serve.{written, begun, readOn, taken, serve}
-use Rattle.protocol.specs.Step.{decide, step, next, after, log}
+use Rattle.protocol.specs.Step.{step, next, after, log}
 use Rattle.protocol.specs.Past.{_∈_, Write, Entry, History, served, shownIn, shownOn, withPasts, tell, wrote, noteServed, note, start, retell, history}
 use Rattle.protocol.proofs.Order.{newest-is}
-use Rattle.protocol.proofs.Judge.{Met, met-both, judge-elim}
+use Rattle.protocol.proofs.Judge.{Met, step-elim}
 use Rattle.protocol.proofs.Invariant.{Ascending, home, NetInv, Below, SessionInv, WriteInv, Told, Inv, Later}
 use Rattle.protocol.proofs.Network.{publish-inv, publish-later, receive-inv, receive-later, clock-inv, clock-later}
 use Rattle.protocol.proofs.Sessions.{all-up, all-nil, all-cons, session-frame, write-frame, set-session, get-session, begin-session, read-session, end-session}
@@ -160,7 +160,7 @@ shown-served (some r) = tt
 
 serve-inv : (S : State) (h : History) → Inv S h → (e : Event) → Met (ranges (S .net .setting) e) → Met (needs (view S e) e) →
     Inv (applyAll (serve (view S e) e .changes) S) (note h e (serve (view S e) e .says))
-unfolding serve needs ranges view viewAt place look applyAll note noteServed served written
+unfolding serve needs ranges applyAll note noteServed served written
 serve-inv S h J (OPEN s m) r t = session-inv S h J s [] [] (opened m zeros noPage)
     (unfold opened noPage in record { here = λ u. ltb-yes (r .0); past = all-nil (J .all) zeros; page = λ f. absurd f; blank = λ f. refl })
 serve-inv S h J (CLOSE s) r t = session-inv S h J s [] [] closed
@@ -203,24 +203,9 @@ serve-inv S h J (BEAT m p) r t = cond-elim (λ cs. Inv (applyAll cs S) h) (beatS
     (λ u. beat-inv S h J m p (S .net .clock m p) (ltb-yes (r .0)) (unfold beatSends in ltb-yes u)) (λ u. J)
 serve-inv S h J (DELIVER i m p) r t = deliver-inv S h J i m p (S .net .chan i m p) refl
 
-pub view-setting : (S : State) (e : Event) → view S e .setting ≡ S .net .setting
-unfolding view viewAt place look
-view-setting S (OPEN s m) = refl
-view-setting S (CLOSE s) = refl
-view-setting S (CLOCK m p t) = refl
-view-setting S (GET s k) = refl
-view-setting S (PUT s k q l) = refl
-view-setting S (BEGIN s p ks) = refl
-view-setting S (READ s k) = refl
-view-setting S (END s) = refl
-view-setting S (BEAT m p) = refl
-view-setting S (DELIVER i m p) = refl
-
 step-inv : (S : State) (h : History) (e : Event) → Inv S h → Inv (next S e) (note h e (step S e .says))
-unfolding next step decide note served applyAll
-step-inv S h e J = judge-elim (λ o. Inv (applyAll (o .changes) S) (note h e (o .says))) (ranges (view S e .setting) e ++ needs (view S e) e) (serve (view S e) e) (λ w. J)
-    (λ t. let u = met-both (ranges (view S e .setting) e) (needs (view S e) e) t in
-    serve-inv S h J e (subst (λ c. Met (ranges c e)) (view-setting S e) (u .0)) (u .1))
+unfolding next note served applyAll
+step-inv S h e J = step-elim S e (λ o. Inv (applyAll (o .changes) S) (note h e (o .says))) (λ w. J) (serve-inv S h J e)
 
 -- ---- every list of events
 

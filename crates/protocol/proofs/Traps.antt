@@ -15,7 +15,7 @@ use Rattle.protocol.specs.View.{View, view}
 use Rattle.protocol.specs.Needs.{_else_, ranges, putReady, storeRoom, sendRoom, needs}
 use Rattle.protocol.specs.Change.{SetSession, Publish, applyAll}
 use Rattle.protocol.specs.Serve.{Outcome, _and_, readOn, written, serve}
-use Rattle.protocol.specs.Step.{judge, decide, Line, log}
+use Rattle.protocol.specs.Step.{judge, judged, decide, Line, log}
 use Rattle.protocol.specs.Past.{_∈_, History, served, shownIn, shownOn, sameId, writerPast, withPasts, tell, wrote, noteServed, note, start, retell, history}
 use Rattle.protocol.specs.Causal.{NoOlder, Covers, CoversAll, GetCausal, PageCausal}
 use Rattle.protocol.proofs.Runs.{computing, refused}
@@ -41,29 +41,28 @@ decideBy R v (CLOCK m p t) = decide v (CLOCK m p t)
 decideBy R v (GET s k) =
     let x = v .session in
     let o = newest (v .setting) (ofKey k) (v .store (partOf (v .setting) k)) in
-    judge (ranges (v .setting) (GET s k) ++ needs v (GET s k)) (shown o and SetSession s (opened (x .site) (R .raises (x .vec) o) (x .page)) ∷ [])
+    judge (ranges (v .setting) (GET s k)) (judge (needs v (GET s k)) (shown o and SetSession s (opened (x .site) (R .raises (x .vec) o) (x .page)) ∷ []))
 decideBy R v (PUT s k q l) =
     let x = v .session in
     let p = partOf (v .setting) k in
     let t = v .clock p in
-    judge
-    (ranges (v .setting) (PUT s k q l) ++
-    (x .isOpen else 12 ∷ not (x .page .isOpen) else 14 ∷ storeRoom (v .store p) else 22 ∷ sendRoom v (x .site) p else 21 ∷ R .ready (x .vec) (v .heard p (x .site)) t else 3 ∷ []))
+    judge (ranges (v .setting) (PUT s k q l))
+    (judge (x .isOpen else 12 ∷ not (x .page .isOpen) else 14 ∷ storeRoom (v .store p) else 22 ∷ sendRoom v (x .site) p else 21 ∷ R .ready (x .vec) (v .heard p (x .site)) t else 3 ∷ [])
     (Stamped (x .site) t and
     Publish (x .site) p (Update (carrying (written x k q l t) (R .carries x t))) ∷
-    SetSession s (opened (x .site) (withEntry (x .vec) (x .site) t) (x .page)) ∷ [])
+    SetSession s (opened (x .site) (withEntry (x .vec) (x .site) t) (x .page)) ∷ []))
 decideBy R v (BEGIN s p ks) = decide v (BEGIN s p ks)
 decideBy R v (READ s k) =
     let x = v .session in
     let o = newest (v .setting) (R .fits k (x .page .vec)) (v .store (partOf (v .setting) k)) in
-    judge (ranges (v .setting) (READ s k) ++ needs v (READ s k)) (shown o and SetSession s (opened (x .site) (x .vec) (readOn (x .page) k o)) ∷ [])
+    judge (ranges (v .setting) (READ s k)) (judge (needs v (READ s k)) (shown o and SetSession s (opened (x .site) (x .vec) (readOn (x .page) k o)) ∷ []))
 decideBy R v (END s) = decide v (END s)
 decideBy R v (BEAT m p) = decide v (BEAT m p)
 decideBy R v (DELIVER i m p) = decide v (DELIVER i m p)
 
 -- by our rules it is document 01's
 ours-is : (v : View) (e : Event) → decideBy ours v e ≡ decide v e
-unfolding decideBy ours carrying decide serve needs written
+unfolding decideBy ours carrying decide judged serve needs written
 ours-is v (OPEN s m) = refl
 ours-is v (CLOSE s) = refl
 ours-is v (CLOCK m p t) = refl

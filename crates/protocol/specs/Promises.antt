@@ -3,6 +3,7 @@ use Prim.Native.Nat.{ℕ, _+_, _≤_, _<_}
 use mathlib.Core.Path.{_≡_}
 use mathlib.Core.Logic.{_≢_}
 use mathlib.Core.List.{List}
+use lib.Dec.{T}
 use lib.ListN.{length}
 use Rattle.vector.specs.Vec.{width}
 use Rattle.protocol.specs.Record.{Setting}
@@ -27,16 +28,22 @@ abbrev pub Conserved : Type 0
 Conserved = (c : Setting) (es : List Event) (i m p : ℕ) → i ≢ m → m < c .sites →
     count (puts i p) (setup c) es ≡ count (delivers i m p) (setup c) es + waiting (after (setup c) es .net .chan i m p)
 
--- INFLUENCE. Two networks are alike in the constants, the nodes of site m, and how full their outgoing channels are
+-- INFLUENCE. p is a partition: every setup has one at least, and where there were none any number would do
+abbrev pub IsPart : Setting → ℕ → Type 0
+IsPart c p = 0 < c .parts → p < c .parts
+
+-- two networks are alike in the constants, the nodes of site m, and how full their channels to the sites are
 pub record SiteAlike (N M : Net) (m : ℕ) : Type 0 where
   pub setting : N .setting ≡ M .setting
-  pub clock : (p : ℕ) → N .clock m p ≡ M .clock m p
-  pub heard : (p i : ℕ) → N .heard m p i ≡ M .heard m p i
-  pub store : (p : ℕ) → N .store m p ≡ M .store m p
-  pub sent : (p j : ℕ) → length (N .chan m j p) ≡ length (M .chan m j p)
+  pub clock : (p : ℕ) → IsPart (N .setting) p → N .clock m p ≡ M .clock m p
+  pub heard : (p i : ℕ) → IsPart (N .setting) p → N .heard m p i ≡ M .heard m p i
+  pub store : (p : ℕ) → IsPart (N .setting) p → N .store m p ≡ M .store m p
+  pub sent : (p j : ℕ) → IsPart (N .setting) p → j < N .setting .sites → length (N .chan m j p) ≡ length (M .chan m j p)
 
+-- an event of a session that is not open sees the session and the constants alone
 unfoldable pub Alike : State → State → Place → Type 0
-Alike S R (ofSession s) = (S .session s ≡ R .session s) × SiteAlike (S .net) (R .net) (S .session s .site)
+Alike S R (ofSession s) =
+    (S .session s ≡ R .session s) × (S .net .setting ≡ R .net .setting) × (T (S .session s .isOpen) → SiteAlike (S .net) (R .net) (S .session s .site))
 Alike S R (atSite m) = SiteAlike (S .net) (R .net) m
 Alike S R (onChannel i m p) = SiteAlike (S .net) (R .net) m × (S .net .chan i m p ≡ R .net .chan i m p)
 

@@ -14,7 +14,7 @@ pub data Place : Type 0 where
   atSite : (m : ℕ) → Place
   onChannel : (i m p : ℕ) → Place
 
-unfoldable pub place : Event → Place
+abbrev pub place : Event → Place
 place (OPEN s m) = ofSession s
 place (CLOSE s) = ofSession s
 place (CLOCK m p t) = atSite m
@@ -36,7 +36,7 @@ pub record View : Type 0 where
   pub sent : ℕ → ℕ → ℕ
   pub front : List Msg
 
-unfoldable pub look : Net → Session → (m : ℕ) → List Msg → View
+abbrev pub look : Net → Session → (m : ℕ) → List Msg → View
 look N x m l = record {
   setting = N .setting;
   session = x;
@@ -47,10 +47,10 @@ look N x m l = record {
   front = l;
 }
 
-unfoldable pub viewAt : State → Place → View
+abbrev pub viewAt : State → Place → View
 viewAt S (ofSession s) = look (S .net) (S .session s) (S .session s .site) []
 viewAt S (atSite m) = look (S .net) closed m []
 viewAt S (onChannel i m p) = look (S .net) closed m (S .net .chan i m p)
 
-unfoldable pub view : State → Event → View
+abbrev pub view : State → Event → View
 view S e = viewAt S (place e)

@@ -4,19 +4,17 @@ use Prim.Native.Nat.{ℕ}
 use mathlib.Core.Path.{_≡_, refl, sym, ap, subst, _∙_}
 use mathlib.Core.Logic.{_⊎_, inl, inr}
 use mathlib.Core.Bool.{Bool, true, false, cond, not, _&&_}
-use mathlib.Core.List.{List, [], _∷_, _++_}
+use mathlib.Core.List.{List, [], _∷_}
 use lib.Dec.{T}
-use mir.Facts.{and-yes, and-no}
+use mir.Facts.{T-not, and-yes, yes-and, and-no}
 use Rattle.codec.specs.Le.{load}
-use Rattle.protocol.specs.Record.{Setting}
 use Rattle.protocol.specs.State.{State}
-use Rattle.protocol.specs.Event.{Event, OPEN, CLOSE, CLOCK, GET, PUT, BEGIN, READ, END, BEAT, DELIVER, plain}
+use Rattle.protocol.specs.Event.{Event, plain}
 use Rattle.protocol.specs.declared.Answer.the-variants.{Refused}
-use Rattle.protocol.specs.View.{view}
-use Rattle.protocol.specs.Needs.{Need, ranges, needs}
-use Rattle.protocol.specs.Serve.{Outcome, _and_, serve}
-use Rattle.protocol.specs.Step.{judge, decide, step}
-use Rattle.protocol.proofs.Steps.{view-setting}
+use Rattle.protocol.specs.Needs.{Need, ranges}
+use Rattle.protocol.specs.Serve.{Outcome, _and_}
+use Rattle.protocol.specs.Step.{step}
+use Rattle.protocol.proofs.Judge.{Met, step-in-range, step-out-of-range}
 use Rattle.event.specs.Event.{codeLawful, eventOf, met}
 use Rattle.event.specs.Fields.{unusedZero}
 use Rattle.table.specs.Decode.{settingIn, decode}
@@ -52,55 +50,27 @@ cond-same {ℓ} : {A : Type ℓ} (b : Bool) (x : A) → cond b x x ≡ x
 cond-same true x = refl
 cond-same false x = refl
 
--- ---- ranges that are met, and ranges that are not
-
-judge-met : (ns ms : List Need) (o : Outcome) → T (met ns) → judge (ns ++ ms) o ≡ judge ms o
-unfolding judge met
-judge-met [] ms o t = refl
-judge-met (n ∷ ns) ms o t = let k = and-yes (n .holds) (met ns) t in cond-yes (n .holds) _ _ (k .0) ∙ judge-met ns ms o (k .1)
-
--- every need is refused with 11
-abbrev All11 : List Need → Type 0
-All11 [] = Unit {0}
-All11 (n ∷ ns) = (n .refusal ≡ plain 11) × All11 ns
-
-judge-unmet : (ns ms : List Need) (o : Outcome) → All11 ns → T (not (met ns)) → judge (ns ++ ms) o ≡ (Refused (plain 11) and [])
-unfolding judge met
-judge-unmet [] ms o a t = absurd t
-judge-unmet (n ∷ ns) ms o a t = go (n .holds) (and-no (n .holds) (met ns) t) (judge-unmet ns ms o (a .1))
-  where
-    go : (b : Bool) → T (not b) ⊎ T (not (met ns)) → (T (not (met ns)) → judge (ns ++ ms) o ≡ (Refused (plain 11) and [])) →
-        cond b (judge (ns ++ ms) o) (Refused (n .refusal) and []) ≡ (Refused (plain 11) and [])
-    go true (inl f) r = absurd f
-    go true (inr f) r = r f
-    go false f r = ap (λ w. Refused w and []) (a .0)
-
-ranges-11 : (c : Setting) (e : Event) → All11 (ranges c e)
-unfolding ranges
-ranges-11 c (OPEN s m) = (refl, (refl, tt))
-ranges-11 c (CLOSE s) = (refl, tt)
-ranges-11 c (CLOCK m p t) = (refl, (refl, (refl, tt)))
-ranges-11 c (GET s k) = (refl, (refl, tt))
-ranges-11 c (PUT s k q l) = (refl, (refl, (refl, (refl, tt))))
-ranges-11 c (BEGIN s p ks) = (refl, (refl, (refl, (refl, tt))))
-ranges-11 c (READ s k) = (refl, (refl, tt))
-ranges-11 c (END s) = (refl, tt)
-ranges-11 c (BEAT m p) = (refl, (refl, tt))
-ranges-11 c (DELIVER i m p) = (refl, (refl, (refl, tt)))
-
 -- ---- a step, where its ranges are met and where not
+
+all-met : (ns : List Need) → T (met ns) → Met ns
+unfolding met
+all-met [] t = tt
+all-met (n ∷ ns) t = let k = and-yes (n .holds) (met ns) t in (k .0, all-met ns (k .1))
+
+is-met : (ns : List Need) → Met ns → T (met ns)
+unfolding met
+is-met [] m = tt
+is-met (n ∷ ns) m = yes-and (n .holds) (met ns) (m .0) (is-met ns (m .1))
 
 abbrev metBy : State → Event → Bool
 metBy S e = met (ranges (S .net .setting) e)
 
 step-met : (S : State) (e : Event) → T (metBy S e) → step S e ≡ answered S e
-unfolding step decide answered
-step-met S e t = judge-met (ranges (view S e .setting) e) (needs (view S e) e) (serve (view S e) e) (subst (λ c. T (met (ranges c e))) (sym (view-setting S e)) t)
+unfolding answered
+step-met S e t = step-in-range S e (all-met (ranges (S .net .setting) e) t)
 
 step-unmet : (S : State) (e : Event) → T (not (metBy S e)) → step S e ≡ (Refused (plain 11) and [])
-unfolding step decide
-step-unmet S e t =
-    judge-unmet (ranges (view S e .setting) e) (needs (view S e) e) (serve (view S e) e) (ranges-11 (view S e .setting) e) (subst (λ c. T (not (met (ranges c e)))) (sym (view-setting S e)) t)
+step-unmet S e t = step-out-of-range S e (λ m. T-not (metBy S e) (is-met (ranges (S .net .setting) e) m) t)
 
 -- ---- the code's tests
 

@@ -2,22 +2,23 @@
 use mathlib.Core.Path.{_≡_, sym, _∙_}
 use mathlib.Core.Bool.{true}
 use borrow.Author.Tests.{not-true, not-false}
+use borrow.Author.Needs.{needs}
 use Rattle.protocol.specs.Event.{BEGIN}
 use Rattle.protocol.specs.Serve.{begun}
+use Rattle.protocol.proofs.Ladders.{beginOf}
 use Rattle.parts.specs.Meaning.{asSession}
 use Rattle.table.specs.Decode.{decode}
 use Rattle.outcome.specs.Marks.{keysOn}
 use Rattle.decision.specs.Answered.{answered}
-use Rattle.decision.proofs.Ladders.{beginOf, begin-says}
+use Rattle.decision.proofs.Ladders.{seenBy, begin-says}
 use Rattle.decision.proofs.pages.begin.Statement.{statement}
 use Rattle.decision.proofs.pages.begin.Tie as tie
-use borrow.Author.Needs.{needs}
 
 -- ---- what is known at the places of the code
 
 -- what is answered, by the session that was loaded
 says : (k : tie.After-session) → let a = k .before .before .args in
-    answered (decode (a .t .now)) (BEGIN (a .s) (a .p) (keysOn (a .keys) (a .count))) ≡ beginOf (a .t .now) (a .s) (a .p) (keysOn (a .keys) (a .count)) (asSession (k .session .result))
+    answered (decode (a .t .now)) (BEGIN (a .s) (a .p) (keysOn (a .keys) (a .count))) ≡ beginOf (seenBy (a .t .now) (asSession (k .session .result))) (a .s) (a .p) (keysOn (a .keys) (a .count))
 says k =
     let a = k .before .before .args in
     begin-says (a .t .now) (a .s) (asSession (k .session .result)) (k .session .ensures .0) (a .p) (keysOn (a .keys) (a .count))

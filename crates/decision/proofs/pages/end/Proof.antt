@@ -2,24 +2,25 @@
 use mathlib.Core.Path.{_≡_, sym, ap, _∙_}
 use mathlib.Core.Bool.{true}
 use borrow.Author.Tests.{not-true, not-false}
+use borrow.Author.Needs.{needs}
 use Rattle.vector.specs.Vec.{larger}
 use Rattle.vector.specs.Entries.{entry}
 use Rattle.vector.proofs.Vec.{raised-plain}
 use Rattle.protocol.specs.State.{Session, noPage, opened}
 use Rattle.protocol.specs.Event.{END}
+use Rattle.protocol.proofs.Ladders.{endOf}
 use Rattle.parts.specs.Meaning.{asSession}
 use Rattle.table.specs.Decode.{decode}
 use Rattle.decision.specs.Answered.{answered}
-use Rattle.decision.proofs.Ladders.{endOf, end-says}
+use Rattle.decision.proofs.Ladders.{seenBy, end-says}
 use Rattle.decision.proofs.pages.end.Statement.{statement}
 use Rattle.decision.proofs.pages.end.Tie as tie
-use borrow.Author.Needs.{needs}
 
 -- ---- what is known at the places of the code
 
 -- what is answered, by the session that was loaded
 says : (k : tie.After-session) → let a = k .before .before .args in
-    answered (decode (a .t .now)) (END (a .s)) ≡ endOf (a .s) (asSession (k .session .result))
+    answered (decode (a .t .now)) (END (a .s)) ≡ endOf (seenBy (a .t .now) (asSession (k .session .result))) (a .s)
 says k =
     let a = k .before .before .args in
     end-says (a .t .now) (a .s) (asSession (k .session .result)) (k .session .ensures .0)

@@ -2,26 +2,27 @@
 use mathlib.Core.Path.{_≡_, sym, _∙_}
 use mathlib.Core.Bool.{true}
 use borrow.Author.Tests.{not-true, not-false}
+use borrow.Author.Needs.{needs}
 use Rattle.vector.specs.Entries.{entry}
 use Rattle.protocol.specs.Record.{newest, fitsPage}
 use Rattle.protocol.specs.Event.{READ}
 use Rattle.protocol.specs.Needs.{readReady}
 use Rattle.protocol.specs.Serve.{readOn}
+use Rattle.protocol.proofs.Ladders.{readOf}
 use Rattle.parts.specs.Meaning.{asSession}
 use Rattle.search.specs.Found.{foundOf}
 use Rattle.search.proofs.Fit.{fits-page}
 use Rattle.table.specs.Decode.{settingIn, decode}
 use Rattle.decision.specs.Answered.{answered}
-use Rattle.decision.proofs.Ladders.{heardBy, storedBy, readOf, read-says}
+use Rattle.decision.proofs.Ladders.{seenBy, heardBy, storedBy, read-says}
 use Rattle.decision.proofs.pages.read.Statement.{statement}
 use Rattle.decision.proofs.pages.read.Tie as tie
-use borrow.Author.Needs.{needs}
 
 -- ---- what is known at the places of the code
 
 -- what is answered, by the session that was loaded
 says : (k : tie.After-session) → let a = k .before .before .args in
-    answered (decode (a .t .now)) (READ (a .s) (a .k)) ≡ readOf (a .t .now) (a .s) (a .k) (asSession (k .session .result))
+    answered (decode (a .t .now)) (READ (a .s) (a .k)) ≡ readOf (seenBy (a .t .now) (asSession (k .session .result))) (a .s) (a .k)
 says k =
     let a = k .before .before .args in
     read-says (a .t .now) (a .s) (asSession (k .session .result)) (k .session .ensures .0) (a .k)

@@ -1,19 +1,20 @@
 -- `decision::sessions::close_session` meets its contract: each return is a rung of the ladder. Assumes nothing.
 use mathlib.Core.Path.{_≡_, sym, ap, _∙_}
 use borrow.Author.Tests.{not-true, not-false}
+use borrow.Author.Needs.{needs}
 use Rattle.protocol.specs.Event.{CLOSE}
 use Rattle.protocol.specs.declared.Answer.{Answer}
+use Rattle.protocol.proofs.Ladders.{keeps, closeOf}
 use Rattle.parts.specs.Meaning.{asSession}
 use Rattle.table.specs.Decode.{decode}
 use Rattle.decision.specs.Answered.{answered}
-use Rattle.decision.proofs.Ladders.{keeps, closeOf, close-says}
+use Rattle.decision.proofs.Ladders.{seenBy, close-says}
 use Rattle.decision.proofs.sessions.close_session.Statement.{statement}
 use Rattle.decision.proofs.sessions.close_session.Tie as tie
-use borrow.Author.Needs.{needs}
 
 -- what is answered, by the session that was loaded
 says : (k : tie.After-session) → let a = k .before .before .args in
-    answered (decode (a .t .now)) (CLOSE (a .s)) ≡ closeOf (a .s) (asSession (k .session .result))
+    answered (decode (a .t .now)) (CLOSE (a .s)) ≡ closeOf (seenBy (a .t .now) (asSession (k .session .result))) (a .s)
 says k =
     let a = k .before .before .args in
     close-says (a .t .now) (a .s) (asSession (k .session .result)) (k .session .ensures .0)

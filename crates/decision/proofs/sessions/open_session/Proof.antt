@@ -1,18 +1,19 @@
 -- `decision::sessions::open_session` meets its contract: each return is a rung of the ladder. Assumes nothing.
 use mathlib.Core.Path.{_≡_, sym, ap, _∙_}
+use borrow.Author.Needs.{needs}
 use Rattle.protocol.specs.Event.{OPEN}
 use Rattle.protocol.specs.declared.Answer.{Answer}
+use Rattle.protocol.proofs.Ladders.{keeps, openOf}
 use Rattle.parts.specs.Meaning.{asSession}
 use Rattle.table.specs.Decode.{decode}
 use Rattle.decision.specs.Answered.{answered}
-use Rattle.decision.proofs.Ladders.{keeps, openOf, open-says}
+use Rattle.decision.proofs.Ladders.{seenBy, open-says}
 use Rattle.decision.proofs.sessions.open_session.Statement.{statement}
 use Rattle.decision.proofs.sessions.open_session.Tie as tie
-use borrow.Author.Needs.{needs}
 
 -- what is answered, by the session that was loaded
 says : (k : tie.After-session) → let a = k .before .before .args in
-    answered (decode (a .t .now)) (OPEN (a .s) (a .m)) ≡ openOf (a .s) (a .m) (asSession (k .session .result))
+    answered (decode (a .t .now)) (OPEN (a .s) (a .m)) ≡ openOf (seenBy (a .t .now) (asSession (k .session .result))) (a .s) (a .m)
 says k =
     let a = k .before .before .args in
     open-says (a .t .now) (a .s) (asSession (k .session .result)) (k .session .ensures .0) (a .m)

@@ -1,21 +1,21 @@
 -- `decision::writes::deliver` meets its contract, by the tests in their order. Assumes nothing.
+use Prim.Native.Nat.{ℕ, _<_}
+use native.Mathlib.Omega.{arith}
 use mathlib.Core.Path.{_≡_, sym, ap, _∙_}
 use mathlib.Core.Bool.{cond, not, _&&_}
 use mathlib.Core.List.{List, [], _∷_}
-use Prim.Native.Nat.{ℕ, _<_}
-use native.Mathlib.Omega.{arith}
 use borrow.Author.Needs.{needs}
 use Rattle.protocol.specs.Event.{DELIVER}
 use Rattle.protocol.specs.Change.{Receive}
 use Rattle.protocol.specs.Serve.{_and_}
 use Rattle.protocol.specs.declared.Answer.the-variants.{Done}
+use Rattle.protocol.proofs.Ladders.{refuse}
 use Rattle.record.specs.Meaning.{asMessage}
 use Rattle.parts.specs.Channel.{waitIn}
 use Rattle.table.specs.Parts.{placeOf, siteOf, channelOf}
 use Rattle.table.specs.Decode.{settingIn, decode}
 use Rattle.lawful.proofs.Facts.{Formed, formed}
 use Rattle.decision.specs.Answered.{answered}
-use Rattle.decision.proofs.Ladders.{no as refuse}
 use Rattle.decision.proofs.Deliver.{firstIn, deliver-none, deliver-first}
 use Rattle.decision.proofs.writes.deliver.Statement.{statement}
 use Rattle.decision.proofs.writes.deliver.Tie as tie

@@ -1,16 +1,17 @@
 -- `decision::writes::put` meets its contract, by the tests in their order. Assumes nothing.
-use mathlib.Core.Path.{_≡_, refl, sym, _∙_}
-use mathlib.Core.Bool.{cond}
 use Prim.Native.Nat.{_<_}
 use native.Mathlib.Omega.{arith}
-use borrow.Author.Needs.{needs}
-use borrow.Author.Tests.{not-true, not-false}
+use mathlib.Core.Path.{_≡_, refl, sym, _∙_}
+use mathlib.Core.Bool.{cond}
+use lib.Dec.{ltb}
 use mir.ValLaws.{toZ-ofZ}
 use mir.Syntax.{w32}
-use lib.Dec.{ltb}
+use borrow.Author.Needs.{needs}
+use borrow.Author.Tests.{not-true, not-false}
 use Rattle.codec.specs.Le.{load}
 use Rattle.protocol.specs.Record.{partOf}
 use Rattle.protocol.specs.Event.{PUT}
+use Rattle.protocol.proofs.Ladders.{refuse, stampedBy, putAt}
 use Rattle.parts.specs.Node.{clockIn, heldIn}
 use Rattle.parts.specs.Meaning.{asSession}
 use Rattle.table.specs.Parts.{siteOf, nodeOf}
@@ -18,8 +19,8 @@ use Rattle.table.specs.Decode.{settingIn, decode}
 use Rattle.lawful.proofs.Facts.{formed}
 use Rattle.decision.specs.Answered.{answered}
 use Rattle.decision.proofs.Room.{roomy}
-use Rattle.decision.proofs.Ladders.{no as refuse}
-use Rattle.decision.proofs.Put.{site-there, stampedBy, atNode, put-closed, put-paged, put-there}
+use Rattle.decision.proofs.Ladders.{seenBy}
+use Rattle.decision.proofs.Put.{site-there, put-closed, put-paged, put-there}
 use Rattle.decision.proofs.writes.put.Statement.{statement}
 use Rattle.decision.proofs.writes.put.Tie as tie
 
@@ -72,7 +73,7 @@ at-node : (c : tie.After-partition) →
     let m = x .result .site in
     let p = c .partition .result in
     answered (decode (a .t .now)) (PUT (a .s) (a .key) (a .quality) (a .level))
-    ≡ atNode (a .t .now) (a .s) (a .key) (a .quality) (a .level) (asSession (x .result)) (x .ensures .0) p (c .partition .ensures .0) (ltb (heldIn (nodeOf (siteOf (a .t .now) m) p)) 32) (roomy (a .t .now) m p)
+    ≡ putAt (seenBy (a .t .now) (asSession (x .result))) (a .s) (a .key) (a .quality) (a .level) p (ltb (heldIn (nodeOf (siteOf (a .t .now) m) p)) 32) (roomy (a .t .now) m p)
 unfolding asSession settingIn
 at-node c =
     let k = c .before in
@@ -121,7 +122,7 @@ by-clock : (c : tie.After-is-ready) →
     let x = p .before .before .before .before .session .result in
     let a = p .before .before .before .before .before .before .args in
     answered (decode (a .t .now)) (PUT (a .s) (a .key) (a .quality) (a .level))
-    ≡ cond (c .is-ready .result) (stampedBy (a .t .now) (a .s) (a .key) (a .quality) (a .level) (asSession x) (p .before .before .before .before .session .ensures .0) (p .partition .result) (p .partition .ensures .0) (clockIn (nodeOf (siteOf (a .t .now) (x .site)) (p .partition .result)))) (refuse 3)
+    ≡ cond (c .is-ready .result) (stampedBy (seenBy (a .t .now) (asSession x)) (a .s) (a .key) (a .quality) (a .level) (p .partition .result) (clockIn (nodeOf (siteOf (a .t .now) (x .site)) (p .partition .result)))) (refuse 3)
 unfolding asSession roomy
 by-clock c =
     let r = c .before .before .before in
