@@ -1,4 +1,4 @@
-//! Events, typed. `event_bytes` has their bytes, `event_words` their words.
+//! Events, typed. `event_bytes` has their bytes, `event_text` their text.
 
 use crate::page_keys::{PageKeys, TooManyKeys};
 use crate::quality::Quality;
@@ -11,9 +11,11 @@ use crate::quality::Quality;
 ///
 /// let event = Event::put(0, 5, Quality::Corrected, -30);
 /// assert_eq!(event.to_string(), "PUT session 0 key 5 quality 1 level -30");
-/// assert_eq!(Event::from_bytes(&event.to_bytes()), Ok(event));
+/// assert_eq!("PUT session 0 key 5 quality 1 level -30".parse(), Ok(event));
+/// assert_eq!(Event::try_from(&event.to_bytes()[..]), Ok(event));
 /// ```
 #[derive(Clone, Copy, Debug, PartialEq, Eq, Hash)]
+#[non_exhaustive]
 pub enum Event {
     /// 1: a session begins at a site.
     Open {
@@ -131,8 +133,8 @@ impl Event {
     /// ```
     pub const fn begin(session: u8, partition: u8, keys: &[u8]) -> Result<Event, TooManyKeys> {
         match PageKeys::new(keys) {
-            Some(keys) => Ok(Event::Begin { session, partition, keys }),
-            None => Err(TooManyKeys),
+            Ok(keys) => Ok(Event::Begin { session, partition, keys }),
+            Err(error) => Err(error),
         }
     }
 

@@ -2,10 +2,13 @@
 //! where they stand in the table. `layout` has what stands in each; both follow
 //! docs/LAYOUT.md.
 
-use std::fmt;
+use alloc::vec::Vec;
+use core::fmt;
 
 use crate::TABLE_BYTES;
 use crate::part::Part;
+use crate::quality::Quality;
+use crate::refusal::Refusal;
 
 /// What a table says, read only.
 ///
@@ -13,12 +16,16 @@ use crate::part::Part;
 /// use level_archive::{Archive, Event, Message, Quality};
 ///
 /// let mut archive = Archive::new(2, 2)?;
-/// archive.run(&[Event::open(3, 0), Event::clock(0, 1, 9), Event::put(3, 5, Quality::Measured, 70)]);
-/// let view = archive.view().expect("a table that was set up");
-/// assert_eq!(view.session(3).map(|session| session.vector), Some([9, 0, 0, 0]));
+/// for event in [Event::open(3, 0), Event::clock(0, 1, 9), Event::put(3, 5, Quality::Measured, 70)] {
+///     archive.step(&event).result()?;
+/// }
+/// let view = archive.view()?;
 /// assert_eq!(view.node(0, 1).map(|node| node.records.len()), Some(1));
-/// let waiting = view.channel(0, 1, 1).expect("there is such a channel");
-/// assert!(matches!(waiting[..], [Message::Update(record)] if record.level == 70));
+/// assert!(view.sessions().map(|session| (session.number, session.vector)).eq([(3, [9, 0, 0, 0])]));
+/// let waiting = view.channels().find(|channel| !channel.messages.is_empty());
+/// let waiting = waiting.expect("the update is on its way");
+/// assert_eq!((waiting.from, waiting.to, waiting.partition), (0, 1, 1));
+/// assert!(matches!(waiting.messages[..], [Message::Update(record)] if record.level == 70));
 /// # Ok::<(), level_archive::Refusal>(())
 /// ```
 #[derive(Clone, Copy)]
@@ -29,6 +36,8 @@ pub struct View<'a> {
 /// A session that is open or not; what a closed one holds means nothing.
 #[derive(Clone, Debug, PartialEq, Eq)]
 pub struct SessionView {
+    /// Its number, 0 to 15.
+    pub number: u8,
     /// Whether it is open.
     pub open: bool,
     /// Its site.
@@ -53,12 +62,29 @@ pub struct PageView {
 /// A node: one partition at one site.
 #[derive(Clone, Debug, PartialEq, Eq)]
 pub struct NodeView {
+    /// Its site.
+    pub site: u8,
+    /// Its partition.
+    pub partition: u8,
     /// Its clock.
     pub clock: u64,
     /// The stamp up to which it has heard each site.
     pub heard: [u64; 4],
     /// Its records, in the order of storing.
     pub records: Vec<Record>,
+}
+
+/// A channel: from a node to the node of the same partition at another site.
+#[derive(Clone, Debug, PartialEq, Eq)]
+pub struct ChannelView {
+    /// The sending site.
+    pub from: u8,
+    /// The receiving site.
+    pub to: u8,
+    /// The partition.
+    pub partition: u8,
+    /// The messages on their way, front first.
+    pub messages: Vec<Message>,
 }
 
 /// A record, or an update on its way.
@@ -68,8 +94,8 @@ pub struct Record {
     pub key: u8,
     /// The site at which it was written.
     pub source: u8,
-    /// 0 measured, 1 corrected, 2 estimated.
-    pub quality: u8,
+    /// How it came to be known; a byte that no well-formed table has is estimated.
+    pub quality: Quality,
     /// mm from datum.
     pub level: i32,
     /// Its stamp at the source.
@@ -93,13 +119,18 @@ pub enum Message {
 }
 
 impl<'a> View<'a> {
-    /// Of a table's bytes; `None` unless they are 57,344 with 1 to 4 sites and
-    /// partitions.
-    pub fn of(bytes: &'a [u8]) -> Option<View<'a>> {
+    /// Of a table's bytes; 23 unless they are 57,344, 24 unless they have 1 to 4 sites
+    /// and partitions. Nothing else is checked.
+    pub fn new(bytes: &'a [u8]) -> Result<View<'a>, Refusal> {
         let view = View { table: Part(bytes) };
         let lawful = |number| (1..=4).contains(&number);
-        (bytes.len() == TABLE_BYTES && lawful(view.sites()) && lawful(view.partitions()))
-            .then_some(view)
+        if bytes.len() != TABLE_BYTES {
+            return Err(Refusal::WrongLength);
+        }
+        if !lawful(view.sites()) || !lawful(view.partitions()) {
+            return Err(Refusal::IllFormed);
+        }
+        Ok(view)
     }
 
     /// The number of sites, 1 to 4.
@@ -117,30 +148,56 @@ impl<'a> View<'a> {
         key.checked_rem(self.partitions()).unwrap_or(0)
     }
 
-    /// A session, 0 to 15.
-    pub fn session(&self, session: u8) -> Option<SessionView> {
-        (session < 16).then(|| self.table.part(128 + 128 * usize::from(session), 128).session())
+    /// A session, 0 to 15, open or not.
+    pub fn session(&self, number: u8) -> Option<SessionView> {
+        let part = self.table.part(128 + 128 * usize::from(number), 128);
+        (number < 16).then(|| part.session(number))
     }
 
     /// The node of a partition at a site; `None` where there is none.
     pub fn node(&self, site: u8, partition: u8) -> Option<NodeView> {
-        (site < self.sites() && partition < self.partitions())
-            .then(|| self.site(site).part(1856 * usize::from(partition), 1856).node())
+        let part = self.site(site).part(1856 * usize::from(partition), 1856);
+        let there = site < self.sites() && partition < self.partitions();
+        there.then(|| part.node(site, partition))
     }
 
-    /// The messages from a site to another, of a partition, front first; `None`
-    /// where there is no channel.
-    pub fn channel(&self, from: u8, to: u8, partition: u8) -> Option<Vec<Message>> {
+    /// The channel of a partition from a site to another; `None` where there is none.
+    pub fn channel(&self, from: u8, to: u8, partition: u8) -> Option<ChannelView> {
         let there =
             from < self.sites() && to < self.sites() && from != to && partition < self.partitions();
         let place = usize::from(if to < from { to } else { to.saturating_sub(1) });
-        there.then(|| {
-            self.site(from).part(7424 + 464 * (3 * usize::from(partition) + place), 464).channel()
-        })
+        let part = self.site(from).part(7424 + 464 * (3 * usize::from(partition) + place), 464);
+        there.then(|| ChannelView { from, to, partition, messages: part.messages() })
+    }
+
+    /// The open sessions.
+    pub fn sessions(&self) -> impl Iterator<Item = SessionView> + use<'a> {
+        let view = *self;
+        (0..16).filter_map(move |number| view.session(number)).filter(|session| session.open)
+    }
+
+    /// All nodes, by site and then by partition.
+    pub fn nodes(&self) -> impl Iterator<Item = NodeView> + use<'a> {
+        let view = *self;
+        (0..16).filter_map(move |place| view.node(place / 4, place % 4))
+    }
+
+    /// All channels, empty ones too, by sending site, receiving site and partition.
+    pub fn channels(&self) -> impl Iterator<Item = ChannelView> + use<'a> {
+        let view = *self;
+        (0..64).filter_map(move |place| view.channel(place / 16, place / 4 % 4, place % 4))
     }
 
     fn site(&self, site: u8) -> Part<'a> {
         self.table.part(4096 + 13056 * usize::from(site), 13056)
+    }
+}
+
+impl<'a> TryFrom<&'a [u8]> for View<'a> {
+    type Error = Refusal;
+
+    fn try_from(bytes: &'a [u8]) -> Result<View<'a>, Refusal> {
+        View::new(bytes)
     }
 }
 

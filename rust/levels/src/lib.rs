@@ -2,9 +2,8 @@
 //!
 //! In the order of the way that an event takes:
 //!
-//! * [`text`]: a line of text and the event that it writes, with line and column
-//!   for what is wrong;
-//! * [`input`]: events one by one from a file or standard input, text or bytes;
+//! * [`input`]: events one by one from a file or standard input, text or bytes, with
+//!   line and column for what is wrong;
 //! * [`story`]: each event stepped through the archive, with what the archive's
 //!   read-only view says about it: who waits for whom, what was sent, what arrived;
 //! * [`words`]: a happening as a sentence;
@@ -14,13 +13,9 @@
 //! Nothing that the archive decides is decided here: every answer is the proved
 //! core's, and a wait's cause is read from the table that it left unchanged.
 
-#![forbid(unsafe_code)]
-#![warn(missing_docs)]
-
 pub mod command;
 pub mod draw;
 pub mod failure;
 pub mod input;
 pub mod story;
-pub mod text;
 pub mod words;

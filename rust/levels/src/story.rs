@@ -112,9 +112,10 @@ impl Story {
             detail: Detail::None,
         };
         let event = piece.event().ok();
-        let before = event.zip(self.archive.view()).map(|(event, view)| Before::of(&view, &event));
+        let before =
+            event.zip(self.archive.view().ok()).map(|(event, view)| Before::of(&view, &event));
         happening.answer = self.archive.step_bytes(piece.bytes());
-        if let (Some(before), Some(event), Some(view)) = (before, event, self.archive.view()) {
+        if let (Some(before), Some(event), Ok(view)) = (before, event, self.archive.view()) {
             happening.node =
                 before.node.filter(|_| happening.answer != Answer::Refused(Refusal::OutOfRange));
             happening.detail = before.detail(&view, &event, happening.answer);
@@ -128,7 +129,7 @@ impl Story {
     }
 
     /// What the archive's table says now.
-    pub fn view(&self) -> Option<View<'_>> {
+    pub fn view(&self) -> Result<View<'_>, Refusal> {
         self.archive.view()
     }
 }
@@ -144,7 +145,7 @@ impl Happening {
             | Event::Begin { session, .. }
             | Event::Read { session, .. }
             | Event::End { session } => Some(session),
-            Event::Clock { .. } | Event::Beat { .. } | Event::Deliver { .. } => None,
+            _ => None,
         }
     }
 }

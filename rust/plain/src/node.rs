@@ -2,7 +2,7 @@
 
 use crate::limits::{KEYS, RECORDS};
 use crate::record::Record;
-use crate::vector::{covers, Vector, ZERO};
+use crate::vector::{Vector, ZERO, covers};
 
 /// A clock, a vector and records in the order in which they were stored.
 #[derive(Clone, Copy, PartialEq, Eq, Debug)]

@@ -66,8 +66,8 @@ fn the_example() {
 
 /// A line for each number 0 to 255.
 fn texts() -> String {
-    let text = |number: u8| match (number, Refusal::from_number(number)) {
-        (_, Some(refusal)) => refusal.to_string(),
+    let text = |number: u8| match (number, Refusal::try_from(number)) {
+        (_, Ok(refusal)) => refusal.to_string(),
         (0, _) => Answer::Done.to_string(),
         (1, _) => String::from("a reading"),
         (2, _) => Answer::Nothing.to_string(),

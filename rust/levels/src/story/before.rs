@@ -22,9 +22,9 @@ impl Before {
             _ => None,
         };
         let front = match *event {
-            Event::Deliver { from, site, partition } => {
-                view.channel(from, site, partition).and_then(|messages| messages.first().copied())
-            }
+            Event::Deliver { from, site, partition } => view
+                .channel(from, site, partition)
+                .and_then(|channel| channel.messages.first().copied()),
             _ => None,
         };
         let page = match *event {
@@ -90,7 +90,7 @@ fn node_of(view: &View, event: &Event) -> Option<Node> {
         | Event::Put { session, key, .. }
         | Event::Read { session, key } => (at(session)?, view.partition_of(key)),
         Event::Begin { session, partition, .. } => (at(session)?, partition),
-        Event::Open { .. } | Event::Close { .. } | Event::End { .. } => return None,
+        _ => return None,
     };
     (site < view.sites() && partition < view.partitions()).then_some(Node { site, partition })
 }

@@ -53,11 +53,12 @@ pub fn refused(view: &View, event: &Event, refusal: Refusal, node: Option<Node>)
             Some(Detail::UnreadKeys(unread.map(|(key, _)| key).collect()))
         }
         (Refusal::ChannelFull, _) => {
-            let Node { site, partition } = node?;
-            let full = |to: &u8| {
-                view.channel(site, *to, partition).is_some_and(|messages| messages.len() >= FULL)
-            };
-            Some(Detail::FullTo((0..view.sites()).filter(full).collect()))
+            let node = node?;
+            let full = view.channels().filter(|channel| {
+                (channel.from, channel.partition) == (node.site, node.partition)
+                    && channel.messages.len() >= FULL
+            });
+            Some(Detail::FullTo(full.map(|channel| channel.to).collect()))
         }
         _ => None,
     }

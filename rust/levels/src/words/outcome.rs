@@ -1,6 +1,6 @@
 //! What became of an event: the sentence's second half.
 
-use level_archive::{Answer, Event, Message, Quality, Reading, Record, Refusal};
+use level_archive::{Answer, Event, Message, Reading, Record, Refusal};
 
 use super::list::{named, vector};
 use crate::story::{Detail, Happening, Unheard};
@@ -8,7 +8,6 @@ use crate::story::{Detail, Happening, Unheard};
 /// What became of an event, as a sentence goes on after it: `waits at node 1,0: ..`.
 pub fn outcome(happening: &Happening) -> String {
     match happening.answer {
-        Answer::Done => done(happening),
         Answer::Written { stamp, .. } => written(happening, stamp),
         Answer::Value(reading) => format!("shows {}", shown(reading)),
         Answer::Nothing => match happening.piece.event() {
@@ -19,6 +18,7 @@ pub fn outcome(happening: &Happening) -> String {
         },
         Answer::Wait => waits(happening),
         Answer::Refused(refusal) => refused(happening, refusal),
+        _ => done(happening),
     }
 }
 
@@ -66,8 +66,6 @@ pub fn update(record: &Record) -> String {
 
 fn shown(reading: Reading) -> String {
     let Reading { source, quality, level, stamp } = reading;
-    let quality = Quality::try_from(quality)
-        .map_or_else(|number| format!("quality {number}"), |quality| quality.to_string());
     format!("{level} mm, {quality}, with stamp {stamp} of site {source}")
 }
 

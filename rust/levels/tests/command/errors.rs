@@ -33,7 +33,6 @@ fn bad_lines_have_line_and_column() {
         ("BEGIN session 0 partition 0 keys 1 2 3 4 5 6 7 8 9", "50: a page has at most 8 keys"),
         ("BEGIN session 0 partition 0 keys 1 2 x", "38: key x is not a number"),
         ("DELIVER from 0 to 1", "20: expected partition, found the end of the line"),
-        ("sites two partitions 1", "7: sites two is not a number"),
         ("sites 2 partitions 2", "1: sites and partitions stand once, before the first event"),
     ];
     for (line, message) in bad {

@@ -21,7 +21,7 @@ fn document_01_there_and_back() {
 fn every_event_file_there_and_back() {
     for (bytes, _) in vectors() {
         let good: Vec<&[u8]> =
-            bytes.chunks(32).filter(|piece| Event::from_bytes(piece).is_ok()).collect();
+            bytes.chunks(32).filter(|piece| Event::try_from(*piece).is_ok()).collect();
         let good = good.concat();
         let text = levels(&["decode"], &good).good();
         assert_eq!(levels(&["encode"], &text).good(), good);
