@@ -64,6 +64,14 @@ fn the_example() {
     assert_eq!(printed(&C99, &source, "two_sites"), TWO_SITES);
 }
 
+/// This crate's version, as text and as a number.
+fn version() -> String {
+    let version = env!("CARGO_PKG_VERSION");
+    let part = |part: &str| part.parse::<u32>().expect("a number");
+    let number = version.split('.').fold(0, |number, next| 100 * number + part(next));
+    format!("{version} {number}\n")
+}
+
 /// A line for each number 0 to 255.
 fn texts() -> String {
     let text = |number: u8| match (number, Refusal::try_from(number)) {
@@ -100,7 +108,7 @@ fn events() -> String {
 fn the_header_says_what_rust_says() {
     let sizes = "16 4 8 57344 32 16\n";
     let answer = "1 3 2 -50000 281474976710655\n";
-    let expected = texts() + &events() + sizes + answer;
+    let expected = version() + &texts() + &events() + sizes + answer;
     assert_eq!(printed(&C99, &test_source("header.c"), "header"), expected);
     if has_cpp() {
         assert_eq!(printed(&CPP, &test_source("header.c"), "header-cpp"), expected);
