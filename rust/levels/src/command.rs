@@ -1,16 +1,17 @@
 //! The command line: which command, its options, its help, its exit code.
 //!
 //! 0 is success, 1 a file that can't be read or written, 2 a wrong command line or
-//! input. A refused event is no failure: it is what the run shows.
+//! input. A refused event is no failure: it is what the run shows. With `--strict` it
+//! is one, 3.
 
 mod archive;
 mod decode;
 mod draw;
 mod encode;
 mod help;
+mod lines;
 mod options;
 mod output;
-mod progress;
 mod run;
 
 use std::ffi::OsString;
@@ -62,6 +63,7 @@ fn start(arguments: Vec<OsString>) -> Result<(), Failure> {
     match command {
         Command::Encode => encode::encode(&options),
         Command::Decode => decode::decode(&options),
+        Command::Run if options.lines => lines::lines(&options),
         Command::Run => run::run(&options),
         Command::Draw => draw::draw(&options),
     }

@@ -48,7 +48,7 @@ pub fn picture(happenings: &[Happening]) -> String {
         .enumerate()
         .map(|(event, happening)| marks_of(happening, &travels.left_over(event)))
         .collect();
-    let rows = Rows::of(&marks);
+    let rows = Rows::of(marks.iter().flatten().map(|mark| mark.row));
     let columns = Columns::of(&marks);
     let plan = Plan { happenings, marks, rows, columns };
 

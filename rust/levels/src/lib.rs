@@ -8,7 +8,7 @@
 //!   read-only view says about it: who waits for whom, what was sent, what arrived;
 //! * [`words`]: a happening as a sentence;
 //! * [`draw`]: all happenings as a space-time picture;
-//! * [`command`]: the command line, its help, output, progress and exit codes.
+//! * [`command`]: the command line, its help, output and exit codes.
 //!
 //! Nothing that the archive decides is decided here: every answer is the proved
 //! core's, and a wait's cause is read from the table that it left unchanged.

@@ -96,9 +96,9 @@ pub struct Unheard {
 }
 
 impl Story {
-    /// Nothing has happened yet; 11 for a number not 1 to 4.
-    pub fn new(sites: u32, partitions: u32) -> Result<Story, Refusal> {
-        Ok(Story { archive: Archive::new(sites, partitions)?, events: 0 })
+    /// Nothing has happened yet.
+    pub fn of(archive: Archive) -> Story {
+        Story { archive, events: 0 }
     }
 
     /// One event more.
@@ -121,11 +121,6 @@ impl Story {
             happening.detail = before.detail(&view, &event, happening.answer);
         }
         happening
-    }
-
-    /// How many events there were.
-    pub fn events(&self) -> u64 {
-        self.events
     }
 
     /// What the archive's table says now.

@@ -21,6 +21,10 @@ pub struct Options {
     pub partitions: Option<u32>,
     /// Whether what can't be written as text becomes a comment.
     pub lenient: bool,
+    /// Whether the bench's lines are printed and not words.
+    pub lines: bool,
+    /// Whether a refused event is a failure.
+    pub strict: bool,
     /// Whether help was asked for.
     pub help: bool,
 }
@@ -46,41 +50,46 @@ impl Options {
         Ok(options)
     }
 
-    /// One option; its value is behind `=` or the next argument.
+    /// One option; its value is behind `=`, right behind `-o`, or the next argument.
     fn option(
         &mut self,
         command: Command,
         option: &str,
         arguments: &mut impl Iterator<Item = OsString>,
     ) -> Result<(), Failure> {
-        let (name, joined) = match option.split_once('=') {
-            Some((name, value)) if name.starts_with("--") => (name, Some(OsString::from(value))),
+        use Command::{Decode, Draw, Run};
+        let (name, mut joined) = match (option.split_once('='), option.strip_prefix("-o")) {
+            (_, Some(file)) if !file.is_empty() => ("-o", Some(file.into())),
+            (Some((name, value)), _) if name.starts_with("--") => (name, Some(value.into())),
             _ => (option, None),
         };
-        let runs = matches!(command, Command::Run | Command::Draw);
-        let takes_value = match name {
-            "-h" | "--help" | "--lenient" | "--text" | "--bytes" => false,
-            "-o" | "--output" | "--sites" | "--partitions" => true,
-            _ => return Err(unknown(command, name)),
+        let mut value = || {
+            let value = joined.take().or_else(|| arguments.next());
+            value.ok_or_else(|| Failure::Usage(format!("{name} needs a value")))
         };
-        let value = match (takes_value, joined) {
-            (false, Some(_)) => return Err(Failure::Usage(format!("{name} has no value"))),
-            (false, None) => OsString::new(),
-            (true, joined) => joined
-                .or_else(|| arguments.next())
-                .ok_or_else(|| Failure::Usage(format!("{name} needs a value")))?,
-        };
-        match name {
-            "-h" | "--help" => self.help = true,
-            "-o" | "--output" => set(&mut self.output, value, "an output file")?,
-            "--lenient" if command == Command::Decode => self.lenient = true,
-            "--text" if runs => set(&mut self.form, Form::Text, "--text or --bytes")?,
-            "--bytes" if runs => set(&mut self.form, Form::Bytes, "--text or --bytes")?,
-            "--sites" if runs => set(&mut self.sites, number(name, &value)?, name)?,
-            "--partitions" if runs => set(&mut self.partitions, number(name, &value)?, name)?,
+        match (name, command) {
+            ("-h" | "--help", _) => self.help = true,
+            ("-o" | "--output", _) => set(&mut self.output, value()?, "an output file")?,
+            ("--lenient", Decode) => self.lenient = true,
+            ("--lines", Run) => self.lines = true,
+            ("--strict", Run) => self.strict = true,
+            ("--text", Run | Draw) => set(&mut self.form, Form::Text, "--text or --bytes")?,
+            ("--bytes", Run | Draw) => set(&mut self.form, Form::Bytes, "--text or --bytes")?,
+            ("--sites", Run | Draw) => set(&mut self.sites, number(name, &value()?)?, name)?,
+            ("--partitions", Run | Draw) => {
+                set(&mut self.partitions, number(name, &value()?)?, name)?
+            }
             _ => return Err(unknown(command, name)),
         }
-        Ok(())
+        match joined {
+            None => Ok(()),
+            Some(_) => Err(Failure::Usage(format!("{name} has no value"))),
+        }
+    }
+
+    /// Whether so many refused events may pass.
+    pub fn allow(&self, refused: u64) -> Result<(), Failure> {
+        if self.strict && refused > 0 { Err(Failure::Refused(refused)) } else { Ok(()) }
     }
 }
 
@@ -119,6 +128,7 @@ mod tests {
         assert_eq!(options.form, Some(Form::Bytes));
         assert_eq!(parsed(Command::Encode, "-- --help").unwrap().input, Some("--help".into()));
         assert_eq!(parsed(Command::Encode, "-").unwrap().input, Some("-".into()));
+        assert_eq!(parsed(Command::Encode, "-oa=b").unwrap().output, Some("a=b".into()));
     }
 
     #[test]
@@ -134,6 +144,7 @@ mod tests {
                 "--sites 2",
                 "decode has no option --sites; see levels decode --help",
             ),
+            (Command::Draw, "--strict", "draw has no option --strict; see levels draw --help"),
             (Command::Draw, "-x", "draw has no option -x; see levels draw --help"),
             (Command::Run, "--sites", "--sites needs a value"),
             (Command::Run, "--sites two", "--sites two is not a number"),

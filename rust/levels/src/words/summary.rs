@@ -13,7 +13,8 @@ pub struct Summary {
     shown: u64,
     nothing: u64,
     waits: u64,
-    refused: u64,
+    /// Those that were refused.
+    pub refused: u64,
 }
 
 impl Summary {

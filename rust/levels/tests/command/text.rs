@@ -38,7 +38,7 @@ fn files_as_well_as_standard_input_and_output() {
     let events = events.to_str().expect("a name");
     let text = scratch("there.txt", b"");
     let back = scratch("back.events", b"old");
-    assert!(levels(&["decode", events, "-o", &text], b"").good().is_empty());
+    assert!(levels(&["decode", events, &format!("-o{text}")], b"").good().is_empty());
     assert!(levels(&["encode", &text, "--output", &back], b"").good().is_empty());
     assert_eq!(std::fs::read(back).expect("written"), read("vectors/base/document-01.events"));
     assert_eq!(levels(&["encode", "-"], b"").good(), b"");
