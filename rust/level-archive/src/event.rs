@@ -157,4 +157,18 @@ impl Event {
     pub const fn deliver(from: u8, to: u8, partition: u8) -> Event {
         Event::Deliver { from, site: to, partition }
     }
+
+    /// The session that it names, if it names one.
+    pub const fn session(self) -> Option<u8> {
+        match self {
+            Event::Open { session, .. }
+            | Event::Close { session }
+            | Event::Get { session, .. }
+            | Event::Put { session, .. }
+            | Event::Begin { session, .. }
+            | Event::Read { session, .. }
+            | Event::End { session } => Some(session),
+            Event::Clock { .. } | Event::Beat { .. } | Event::Deliver { .. } => None,
+        }
+    }
 }

@@ -4,8 +4,8 @@
 //!
 //! * [`input`]: events one by one from a file or standard input, text or bytes, with
 //!   line and column for what is wrong;
-//! * [`story`]: each event stepped through the archive, with what the archive's
-//!   read-only view says about it: who waits for whom, what was sent, what arrived;
+//! * [`story`]: each event stepped through the archive, with what the tables before
+//!   and after it say about it: who waits for whom, what was sent, what arrived;
 //! * [`words`]: a happening as a sentence;
 //! * [`draw`]: all happenings as a space-time picture;
 //! * [`command`]: the command line, its help, output and exit codes.

@@ -44,6 +44,7 @@ fn bytes_are_document_01s() {
         assert_eq!(format!("\t{} ", words.to_lowercase().replace('-', "−")).parse(), Ok(event));
         assert_eq!(event.code(), bytes[0]);
         assert!(words.starts_with(event.name()));
+        assert_eq!(event.session(), words.contains("session").then_some(bytes[3]));
     }
 }
 

@@ -3,6 +3,7 @@
 use std::io::{self, Write};
 
 use super::archive;
+use super::lines::lines;
 use super::options::Options;
 use super::output::Output;
 use crate::failure::Failure;
@@ -10,8 +11,11 @@ use crate::input::{Item, Source};
 use crate::story::Story;
 use crate::words::{Sentence, Summary, on_the_way};
 
-/// A line for each event, and what is to be said at the end.
+/// A sentence for each event, and what is to be said at the end.
 pub fn run(options: &Options) -> Result<(), Failure> {
+    if options.lines {
+        return lines(options);
+    }
     let mut story = Story::of(archive::usual(options)?);
     let mut summary = Summary::default();
     let source = Source::open(options.input.as_deref())?;

@@ -8,10 +8,10 @@ use super::{Detail, Node, Unheard};
 const FULL: usize = 8;
 
 /// Why an event waits at a node.
-pub fn waits(view: &View, event: &Event, node: Node) -> Option<Detail> {
+pub fn waits(view: &View, event: Event, node: Node) -> Option<Detail> {
     let there = view.node(node.site, node.partition)?;
     let own = usize::from(node.site);
-    Some(match *event {
+    Some(match event {
         Event::Get { session, .. } => {
             let mut needed = view.session(session)?.vector;
             needed[own] = 0; // a GET does not wait for its own site
@@ -37,8 +37,8 @@ fn clock_too_early(node: &NodeView, session: &SessionView, own: usize) -> Detail
 }
 
 /// More about a refusal, where there is more to say than its number.
-pub fn refused(view: &View, event: &Event, refusal: Refusal, node: Option<Node>) -> Option<Detail> {
-    match (refusal, *event) {
+pub fn refused(view: &View, event: Event, refusal: Refusal, node: Option<Node>) -> Option<Detail> {
+    match (refusal, event) {
         (Refusal::BeforeClock, _) => {
             let node = node?;
             Some(Detail::ClockIs(view.node(node.site, node.partition)?.clock))

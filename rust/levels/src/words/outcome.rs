@@ -2,7 +2,7 @@
 
 use level_archive::{Answer, Event, Message, Reading, Record, Refusal};
 
-use super::list::{named, vector};
+use super::list::named;
 use crate::story::{Detail, Happening, Unheard};
 
 /// What became of an event, as a sentence goes on after it: `waits at node 1,0: ..`.
@@ -25,8 +25,8 @@ pub fn outcome(happening: &Happening) -> String {
 fn done(happening: &Happening) -> String {
     match &happening.detail {
         Detail::Vector(entries) => match happening.piece.event() {
-            Ok(Event::Begin { .. }) => format!("opens a page as of {}", vector(entries)),
-            _ => format!("closes the page, and the session has seen {}", vector(entries)),
+            Ok(Event::Begin { .. }) => format!("opens a page as of {entries:?}"),
+            _ => format!("closes the page, and the session has seen {entries:?}"),
         },
         Detail::Sent { stamp, to } if to.is_empty() => {
             format!("is done with stamp {stamp}, and there is no other site to tell")
