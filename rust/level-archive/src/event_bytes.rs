@@ -50,7 +50,7 @@ impl Fields {
     fn in_bytes(bytes: Part) -> Result<Fields, EventError> {
         let code = bytes.byte(0);
         let count = if code == 6 { bytes.byte(7) } else { 0 };
-        let keys = bytes.part(20, PageKeys::MOST).0.get(..count.into());
+        let keys = bytes.part(20, 8).0.get(..count.into());
         let keys = keys.and_then(|keys| PageKeys::new(keys).ok());
         Ok(Fields {
             code,

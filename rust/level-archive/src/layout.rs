@@ -4,6 +4,7 @@
 
 use alloc::vec::Vec;
 
+use crate::limits::{MESSAGES, PAGE_KEYS, RECORDS};
 use crate::part::Part;
 use crate::quality::Quality;
 use crate::view::{Message, NodeView, PageView, Record, SessionView};
@@ -21,23 +22,25 @@ impl Part<'_> {
     }
 
     fn page(self) -> PageView {
-        let keys = (0..self.count(3, 8))
+        let keys = (0..self.count(3, PAGE_KEYS))
             .map(|place| (self.byte(8 + place), self.byte(16 + place) == 1))
             .collect();
         PageView { vector: self.vector(64), keys, gathered: self.vector(96) }
     }
 
     pub(crate) fn node(self, site: u8, partition: u8) -> NodeView {
-        let records =
-            (0..self.count(40, 32)).map(|place| self.part(64 + 56 * place, 48).record()).collect();
+        let records = (0..self.count(40, RECORDS))
+            .map(|place| self.part(64 + 56 * place, 48).record())
+            .collect();
         NodeView { site, partition, clock: self.number(0), heard: self.vector(8), records }
     }
 
-    /// Of a channel, a ring of 8.
+    /// Of a channel, a ring.
     pub(crate) fn messages(self) -> Vec<Message> {
         let front = usize::from(self.byte(0));
-        (0..self.count(1, 8))
-            .map(|behind| self.part(16 + 56 * ((front + behind) % 8), 48).message())
+        (0..self.count(1, MESSAGES))
+            .map(|behind| (front + behind) % usize::from(MESSAGES))
+            .map(|place| self.part(16 + 56 * place, 48).message())
             .collect()
     }
 

@@ -7,7 +7,7 @@
 //! * [`Event`] is what happens, typed, as text or as bytes; [`Answer`] is what the
 //!   archive says to it, a [`Refusal`] among them.
 //! * [`View`] shows what a table holds.
-//! * [`sys`] has the three proved functions as they are.
+//! * [`limits`] has document 01's numbers, [`sys`] the three proved functions as they are.
 //!
 //! ```
 //! use level_archive::{Answer, Archive, Event, Quality};
@@ -43,6 +43,7 @@ mod event;
 mod event_bytes;
 mod event_text;
 mod layout;
+pub mod limits;
 mod page_keys;
 mod part;
 mod quality;

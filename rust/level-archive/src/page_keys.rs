@@ -3,6 +3,8 @@
 use core::error::Error;
 use core::fmt;
 
+use crate::limits::PAGE_KEYS;
+
 /// Up to 8 keys. None, and any numbers, may be written: the archive refuses them.
 ///
 /// ```
@@ -15,19 +17,18 @@ use core::fmt;
 #[derive(Clone, Copy, Default, PartialEq, Eq, Hash)]
 pub struct PageKeys {
     count: u8,
-    keys: [u8; PageKeys::MOST], // zero from the count on
+    keys: [u8; ROOM], // zero from the count on
 }
 
-impl PageKeys {
-    /// How many there may be.
-    pub const MOST: usize = 8;
+const ROOM: usize = PAGE_KEYS as usize;
 
+impl PageKeys {
     /// The keys in this order.
     pub const fn new(keys: &[u8]) -> Result<PageKeys, TooManyKeys> {
-        if keys.len() > PageKeys::MOST {
+        if keys.len() > ROOM {
             return Err(TooManyKeys);
         }
-        let mut page = PageKeys { count: keys.len() as u8, keys: [0; PageKeys::MOST] };
+        let mut page = PageKeys { count: keys.len() as u8, keys: [0; ROOM] };
         let mut place = 0;
         while place < keys.len() {
             page.keys[place] = keys[place];
@@ -54,7 +55,7 @@ impl PageKeys {
     }
 
     /// The eight bytes of an event, zero from the count on.
-    pub(crate) const fn bytes(&self) -> [u8; PageKeys::MOST] {
+    pub(crate) const fn bytes(&self) -> [u8; ROOM] {
         self.keys
     }
 }

@@ -6,9 +6,21 @@ use alloc::vec::Vec;
 use core::fmt;
 
 use crate::TABLE_BYTES;
+use crate::limits::{PARTITIONS, SESSIONS, SITES};
 use crate::part::Part;
 use crate::quality::Quality;
 use crate::refusal::Refusal;
+
+/// A table is a head with the sessions and then a part for each site.
+const FIRST_SESSION: usize = 128;
+const SESSION_BYTES: usize = 128;
+const FIRST_SITE: usize = 4096;
+const SITE_BYTES: usize = 13_056;
+/// A site's part is its four nodes and then, node by node, the channels to other sites.
+const NODE_BYTES: usize = 1856;
+const FIRST_CHANNEL: usize = 4 * NODE_BYTES;
+const CHANNEL_BYTES: usize = 464;
+const CHANNELS: usize = 3;
 
 /// What a table says, read only.
 ///
@@ -123,14 +135,13 @@ impl<'a> View<'a> {
     /// and partitions. Nothing else is checked.
     pub fn new(bytes: &'a [u8]) -> Result<View<'a>, Refusal> {
         let view = View { table: Part(bytes) };
-        let lawful = |number| (1..=4).contains(&number);
-        if bytes.len() != TABLE_BYTES {
-            return Err(Refusal::WrongLength);
+        let lawful =
+            (1..=SITES).contains(&view.sites()) && (1..=PARTITIONS).contains(&view.partitions());
+        match bytes.len() {
+            TABLE_BYTES if lawful => Ok(view),
+            TABLE_BYTES => Err(Refusal::IllFormed),
+            _ => Err(Refusal::WrongLength),
         }
-        if !lawful(view.sites()) || !lawful(view.partitions()) {
-            return Err(Refusal::IllFormed);
-        }
-        Ok(view)
     }
 
     /// The number of sites, 1 to 4.
@@ -150,13 +161,13 @@ impl<'a> View<'a> {
 
     /// A session, 0 to 15, open or not.
     pub fn session(&self, number: u8) -> Option<SessionView> {
-        let part = self.table.part(128 + 128 * usize::from(number), 128);
-        (number < 16).then(|| part.session(number))
+        let at = FIRST_SESSION + SESSION_BYTES * usize::from(number);
+        (number < SESSIONS).then(|| self.table.part(at, SESSION_BYTES).session(number))
     }
 
     /// The node of a partition at a site; `None` where there is none.
     pub fn node(&self, site: u8, partition: u8) -> Option<NodeView> {
-        let part = self.site(site).part(1856 * usize::from(partition), 1856);
+        let part = self.site(site).part(NODE_BYTES * usize::from(partition), NODE_BYTES);
         let there = site < self.sites() && partition < self.partitions();
         there.then(|| part.node(site, partition))
     }
@@ -166,30 +177,33 @@ impl<'a> View<'a> {
         let there =
             from < self.sites() && to < self.sites() && from != to && partition < self.partitions();
         let place = usize::from(if to < from { to } else { to.saturating_sub(1) });
-        let part = self.site(from).part(7424 + 464 * (3 * usize::from(partition) + place), 464);
+        let at = FIRST_CHANNEL + CHANNEL_BYTES * (CHANNELS * usize::from(partition) + place);
+        let part = self.site(from).part(at, CHANNEL_BYTES);
         there.then(|| ChannelView { from, to, partition, messages: part.messages() })
     }
 
     /// The open sessions.
     pub fn sessions(&self) -> impl Iterator<Item = SessionView> + use<'a> {
         let view = *self;
-        (0..16).filter_map(move |number| view.session(number)).filter(|session| session.open)
+        (0..SESSIONS).filter_map(move |number| view.session(number)).filter(|session| session.open)
     }
 
     /// All nodes, by site and then by partition.
     pub fn nodes(&self) -> impl Iterator<Item = NodeView> + use<'a> {
         let view = *self;
-        (0..16).filter_map(move |place| view.node(place / 4, place % 4))
+        let sites = 0..SITES;
+        sites.flat_map(move |m| (0..PARTITIONS).filter_map(move |p| view.node(m, p)))
     }
 
     /// All channels, empty ones too, by sending site, receiving site and partition.
     pub fn channels(&self) -> impl Iterator<Item = ChannelView> + use<'a> {
         let view = *self;
-        (0..64).filter_map(move |place| view.channel(place / 16, place / 4 % 4, place % 4))
+        let pairs = (0..SITES).flat_map(|from| (0..SITES).map(move |to| (from, to)));
+        pairs.flat_map(move |(m, n)| (0..PARTITIONS).filter_map(move |p| view.channel(m, n, p)))
     }
 
     fn site(&self, site: u8) -> Part<'a> {
-        self.table.part(4096 + 13056 * usize::from(site), 13056)
+        self.table.part(FIRST_SITE + SITE_BYTES * usize::from(site), SITE_BYTES)
     }
 }
 

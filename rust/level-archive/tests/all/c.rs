@@ -4,6 +4,7 @@
 use std::path::{Path, PathBuf};
 use std::process::Command;
 
+use level_archive::limits::*;
 use level_archive::{Answer, Event, Quality, Refusal};
 
 const LIBRARY: &str = env!("LEVEL_ARCHIVE_LIBRARY");
@@ -72,6 +73,13 @@ fn version() -> String {
     format!("{version} {number}\n")
 }
 
+/// Document 01's numbers, in the header's order.
+fn limits() -> String {
+    let (sessions, keys) = (SESSIONS - 1, KEYS - 1);
+    let counts = format!("{SITES} {PARTITIONS} {sessions} {keys} {PAGE_KEYS}");
+    format!("{counts} {LAST_TIME} {LOWEST_LEVEL} {HIGHEST_LEVEL}\n")
+}
+
 /// A line for each number 0 to 255.
 fn texts() -> String {
     let text = |number: u8| match (number, Refusal::try_from(number)) {
@@ -108,7 +116,7 @@ fn events() -> String {
 fn the_header_says_what_rust_says() {
     let sizes = "16 4 8 57344 32 16\n";
     let answer = "1 3 2 -50000 281474976710655\n";
-    let expected = version() + &texts() + &events() + sizes + answer;
+    let expected = version() + &texts() + &events() + sizes + &limits() + answer;
     assert_eq!(printed(&C99, &test_source("header.c"), "header"), expected);
     if has_cpp() {
         assert_eq!(printed(&CPP, &test_source("header.c"), "header-cpp"), expected);

@@ -1,17 +1,15 @@
 //! The archive that a run is in: options, then the text's own line, then 4 and 4.
 
 use level_archive::Archive;
+use level_archive::limits::{PARTITIONS, SITES};
 
 use super::options::Options;
 use crate::failure::Failure;
 use crate::words::counted;
 
-/// The bench's numbers of sites and partitions.
-const USUAL: u32 = 4;
-
-/// The archive of the options; 4 sites and 4 partitions where they say nothing.
+/// The archive of the options; that of the bench, 4 and 4, where they say nothing.
 pub fn usual(options: &Options) -> Result<Archive, Failure> {
-    archive(options, USUAL, USUAL).map_err(Failure::Usage)
+    archive(options, SITES.into(), PARTITIONS.into()).map_err(Failure::Usage)
 }
 
 /// The archive of a line at `place`; options go before it.

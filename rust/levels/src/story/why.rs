@@ -1,11 +1,9 @@
 //! Why an event waits or is refused, from the table that it left unchanged.
 
+use level_archive::limits::MESSAGES;
 use level_archive::{Event, NodeView, Refusal, SessionView, View};
 
 use super::{Detail, Node, Unheard};
-
-/// How many messages fill a channel.
-const FULL: usize = 8;
 
 /// Why an event waits at a node.
 pub fn waits(view: &View, event: Event, node: Node) -> Option<Detail> {
@@ -56,7 +54,7 @@ pub fn refused(view: &View, event: Event, refusal: Refusal, node: Option<Node>) 
             let node = node?;
             let full = view.channels().filter(|channel| {
                 (channel.from, channel.partition) == (node.site, node.partition)
-                    && channel.messages.len() >= FULL
+                    && channel.messages.len() >= usize::from(MESSAGES)
             });
             Some(Detail::FullTo(full.map(|channel| channel.to).collect()))
         }

@@ -1,4 +1,4 @@
-/* Prints what the header's functions give, for tests/all/c.rs to compare: the version, the texts, the events, sizes and places, an answer out of bytes. */
+/* Prints what the header's functions give, for tests/all/c.rs to compare: the version, the texts, the events, sizes and places, limits, an answer out of bytes. */
 #include <inttypes.h>
 #include <stdio.h>
 
@@ -54,6 +54,9 @@ int main(void) {
     print_events();
     printf("%d %d %d ", (int)sizeof(level_archive_answer), (int)offsetof(level_archive_answer, level), (int)offsetof(level_archive_answer, stamp));
     printf("%d %d %d\n", LEVEL_ARCHIVE_TABLE_BYTES, LEVEL_ARCHIVE_EVENT_BYTES, LEVEL_ARCHIVE_ANSWER_BYTES);
+    printf("%d %d %d %d ", LEVEL_ARCHIVE_MOST_SITES, LEVEL_ARCHIVE_MOST_PARTITIONS, LEVEL_ARCHIVE_LAST_SESSION, LEVEL_ARCHIVE_LAST_KEY);
+    printf("%d %" PRIu64 " ", LEVEL_ARCHIVE_PAGE_KEYS, LEVEL_ARCHIVE_LAST_TIME);
+    printf("%d %d\n", LEVEL_ARCHIVE_LOWEST_LEVEL, LEVEL_ARCHIVE_HIGHEST_LEVEL);
     print_answer();
     return 0;
 }
