@@ -20,7 +20,6 @@ use crate::refusal::Refusal;
 /// assert_eq!(Answer::try_from(&answer.to_bytes()[..]), Ok(answer));
 /// ```
 #[derive(Clone, Copy, Debug, PartialEq, Eq, Hash)]
-#[must_use = "the event may have to wait, or be refused"]
 #[non_exhaustive]
 pub enum Answer {
     /// 0: done.
@@ -59,6 +58,7 @@ pub struct Reading {
 /// in which the bench prints them. What a number does not fill is zero.
 #[derive(Clone, Copy, Debug, Default, PartialEq, Eq, Hash)]
 #[repr(C)]
+#[must_use]
 pub struct Values {
     /// 0 done, 1 value, 2 nothing recorded, 3 wait, 10 to 24 refused.
     pub number: u8,

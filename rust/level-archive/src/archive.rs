@@ -76,11 +76,13 @@ impl<B: AsRef<[u8]> + AsMut<[u8]>> Archive<B> {
 
     /// One event. The whole table is checked first; [`run`](Archive::run) checks it
     /// once for many.
+    #[must_use = "the event may have to wait, or be refused"]
     pub fn step(&mut self, event: &Event) -> Answer {
         self.step_bytes(&event.to_bytes())
     }
 
     /// One event's bytes; any bytes.
+    #[must_use = "the event may have to wait, or be refused"]
     pub fn step_bytes(&mut self, event: &[u8]) -> Answer {
         Answer::of_core(sys::step(self.bytes.as_mut(), event))
     }

@@ -112,6 +112,7 @@ fn event(words: &mut Words) -> Result<Event, ParseEventError> {
             site: words.field("to")?,
             partition: words.field("partition")?,
         },
+        "" => return Err(name.instead_of("an event")),
         _ => {
             let names = "OPEN, CLOSE, CLOCK, GET, PUT, BEGIN, READ, END, BEAT or DELIVER";
             return Err(name.error(format!("{name} is not an event: {names}")));

@@ -34,6 +34,7 @@
 //! for in target/staticlib there, or in the folder that LEVEL_ARCHIVE_LIB_DIR names.
 
 #![no_std]
+#![doc(test(attr(deny(warnings))))] // no example drops an answer
 
 extern crate alloc;
 

@@ -105,7 +105,8 @@ impl Word<'_> {
         ParseEventError { column: self.column, message }
     }
 
-    fn instead_of(self, expected: &str) -> ParseEventError {
+    /// The complaint that something else was expected here.
+    pub(crate) fn instead_of(self, expected: &str) -> ParseEventError {
         self.error(format!("expected {expected}, found {self}"))
     }
 

@@ -113,7 +113,7 @@ fn other_texts_are_named() {
     let long = "x".repeat(1000);
     let cut = format!("{}... is not an event", "x".repeat(40));
     let bad = [
-        ("", 1, "the end of the line is not an event: OPEN, CLOSE"),
+        (" ", 1, "expected an event, found the end of the line"),
         ("\u{1b}[2J", 1, "\\u{1b}[2J is not an event"),
         (&long, 1, &cut),
         ("  OPEN session 0 site 0 at", 25, "expected the end of the line, found at"),

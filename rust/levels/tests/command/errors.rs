@@ -107,7 +107,7 @@ fn a_strict_run_says_whether_anything_was_refused() {
         assert_eq!(levels(form, waits).code, Some(0));
         let done = levels(form, refused);
         assert_eq!((done.code, done.errors.as_str()), (Some(3), "levels: 2 events refused\n"));
-        assert!(done.text().contains("3"), "all is written: {}", done.text());
+        assert!(done.text().lines().count() >= 3, "all is written: {}", done.text());
     }
 }
 
