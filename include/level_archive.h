@@ -1,9 +1,10 @@
 /*
  * The level archive for C (C99) and C++ programs.
  *
- * In order: lengths and limits, the numbers given back, an answer, the three
- * proved functions, the same for pointers that may be null, the ten events, an
- * answer out of `level_archive_run`'s bytes.
+ * In order: version, lengths and limits, the events' codes, the numbers given back,
+ * an answer, the three proved functions, the functions that fill an event's 32
+ * bytes (level_archive_event_open and so on), an answer out of
+ * `level_archive_run`'s bytes.
  *
  * Link target/staticlib/libarchive.a, which `make library` writes:
  *
@@ -19,6 +20,11 @@
 #ifdef __cplusplus
 extern "C" {
 #endif
+
+/* ---- the version of this header */
+
+#define LEVEL_ARCHIVE_VERSION "0.1.0"
+#define LEVEL_ARCHIVE_VERSION_NUMBER 100 /* 10,000 major + 100 minor + patch */
 
 /* ---- lengths and limits */
 
@@ -39,6 +45,21 @@ enum { /* qualities */
     LEVEL_ARCHIVE_MEASURED = 0,
     LEVEL_ARCHIVE_CORRECTED = 1,
     LEVEL_ARCHIVE_ESTIMATED = 2
+};
+
+/* ---- the events' codes */
+
+enum {
+    LEVEL_ARCHIVE_EVENT_OPEN = 1,    /* a session begins at a site */
+    LEVEL_ARCHIVE_EVENT_CLOSE = 2,   /* a session ends, page or no page */
+    LEVEL_ARCHIVE_EVENT_CLOCK = 3,   /* a node's clock is set, never back */
+    LEVEL_ARCHIVE_EVENT_GET = 4,     /* the newest record of a key is shown */
+    LEVEL_ARCHIVE_EVENT_PUT = 5,     /* a level is recorded and sent to the other sites */
+    LEVEL_ARCHIVE_EVENT_BEGIN = 6,   /* a page is opened, to be read as of one moment */
+    LEVEL_ARCHIVE_EVENT_READ = 7,    /* a key of the page is shown */
+    LEVEL_ARCHIVE_EVENT_END = 8,     /* the page, read, is closed */
+    LEVEL_ARCHIVE_EVENT_BEAT = 9,    /* a node tells the other sites its clock */
+    LEVEL_ARCHIVE_EVENT_DELIVER = 10 /* the front message of a channel reaches its node */
 };
 
 /* ---- the numbers given back; a refusal (10 to 24) and a wait change no byte of the table */
@@ -108,8 +129,8 @@ typedef struct level_archive_answer {
  * that are lent to it and keeps no pointer. Lent means: as many bytes as the length
  * says may be read there (and written, where the pointer is not const), nobody else
  * touches them during the call, and the table and the answers overlap nothing. A null
- * pointer is fine with length 0 alone; for others see the checked functions below.
- * There is no state beside the table: calls on different tables may run at once.
+ * pointer is fine with length 0 alone. There is no state beside the table: calls on
+ * different tables may run at once.
  */
 
 /* Makes a table empty, whatever lay in it, for 1 to 4 sites and partitions. 0, 23 or 11. */
@@ -127,31 +148,15 @@ level_archive_answer level_archive_step(uint8_t *table, size_t table_length, con
 size_t level_archive_run(uint8_t *table, size_t table_length, const uint8_t *events, size_t events_length,
                          uint8_t *answers, size_t answers_length);
 
-/* ---- the same for pointers that may be null: a null pointer is no bytes, whatever its length says */
-
-static inline level_archive_answer level_archive_checked_setup(uint8_t *table, size_t table_length, uint32_t sites,
-                                                               uint32_t partitions) {
-    return level_archive_setup(table, table ? table_length : 0, sites, partitions);
-}
-
-/* 23 for a null table or event. */
-static inline level_archive_answer level_archive_checked_step(uint8_t *table, size_t table_length,
-                                                              const uint8_t *event, size_t event_length) {
-    return level_archive_step(table, table ? table_length : 0, event, event ? event_length : 0);
-}
-
-/* For a null table every answer is 23; with null events or answers none is given. */
-static inline size_t level_archive_checked_run(uint8_t *table, size_t table_length, const uint8_t *events,
-                                               size_t events_length, uint8_t *answers, size_t answers_length) {
-    return level_archive_run(table, table ? table_length : 0, events, events ? events_length : 0, answers,
-                             answers ? answers_length : 0);
-}
-
-/* ---- the ten events, each written into 32 bytes; numbers out of range may be written, and are refused with 11 */
+/*
+ * ---- the ten events: each function fills an event's 32 bytes and does nothing else
+ *
+ * Numbers out of range may be written; level_archive_step refuses them with 11.
+ */
 
 /* Any event's first fields; the others are made zero. */
-static inline void level_archive_event(uint8_t event[LEVEL_ARCHIVE_EVENT_BYTES], uint8_t code, uint8_t site,
-                                       uint8_t partition, uint8_t session, uint8_t key) {
+static inline void level_archive_event_fields(uint8_t event[LEVEL_ARCHIVE_EVENT_BYTES], uint8_t code, uint8_t site,
+                                              uint8_t partition, uint8_t session, uint8_t key) {
     memset(event, 0, LEVEL_ARCHIVE_EVENT_BYTES);
     event[0] = code;
     event[1] = site;
@@ -161,65 +166,65 @@ static inline void level_archive_event(uint8_t event[LEVEL_ARCHIVE_EVENT_BYTES],
 }
 
 /* OPEN: a session begins at a site. */
-static inline void level_archive_open(uint8_t event[LEVEL_ARCHIVE_EVENT_BYTES], uint8_t session, uint8_t site) {
-    level_archive_event(event, 1, site, 0, session, 0);
+static inline void level_archive_event_open(uint8_t event[LEVEL_ARCHIVE_EVENT_BYTES], uint8_t session, uint8_t site) {
+    level_archive_event_fields(event, LEVEL_ARCHIVE_EVENT_OPEN, site, 0, session, 0);
 }
 
 /* CLOSE: a session ends, page or no page. */
-static inline void level_archive_close(uint8_t event[LEVEL_ARCHIVE_EVENT_BYTES], uint8_t session) {
-    level_archive_event(event, 2, 0, 0, session, 0);
+static inline void level_archive_event_close(uint8_t event[LEVEL_ARCHIVE_EVENT_BYTES], uint8_t session) {
+    level_archive_event_fields(event, LEVEL_ARCHIVE_EVENT_CLOSE, 0, 0, session, 0);
 }
 
 /* CLOCK: a node's clock is set, never back. */
-static inline void level_archive_clock(uint8_t event[LEVEL_ARCHIVE_EVENT_BYTES], uint8_t site, uint8_t partition,
-                                       uint64_t time) {
+static inline void level_archive_event_clock(uint8_t event[LEVEL_ARCHIVE_EVENT_BYTES], uint8_t site, uint8_t partition,
+                                             uint64_t time) {
     int byte;
-    level_archive_event(event, 3, site, partition, 0, 0);
+    level_archive_event_fields(event, LEVEL_ARCHIVE_EVENT_CLOCK, site, partition, 0, 0);
     for (byte = 0; byte < 8; byte++) event[8 + byte] = (uint8_t)(time >> (8 * byte));
 }
 
 /* GET: the newest record of a key is shown. */
-static inline void level_archive_get(uint8_t event[LEVEL_ARCHIVE_EVENT_BYTES], uint8_t session, uint8_t key) {
-    level_archive_event(event, 4, 0, 0, session, key);
+static inline void level_archive_event_get(uint8_t event[LEVEL_ARCHIVE_EVENT_BYTES], uint8_t session, uint8_t key) {
+    level_archive_event_fields(event, LEVEL_ARCHIVE_EVENT_GET, 0, 0, session, key);
 }
 
 /* PUT: a level, in mm from datum, is recorded and sent to the other sites. */
-static inline void level_archive_put(uint8_t event[LEVEL_ARCHIVE_EVENT_BYTES], uint8_t session, uint8_t key,
-                                     uint8_t quality, int32_t level) {
+static inline void level_archive_event_put(uint8_t event[LEVEL_ARCHIVE_EVENT_BYTES], uint8_t session, uint8_t key,
+                                           uint8_t quality, int32_t level) {
     int byte;
-    level_archive_event(event, 5, 0, 0, session, key);
+    level_archive_event_fields(event, LEVEL_ARCHIVE_EVENT_PUT, 0, 0, session, key);
     event[5] = quality;
     for (byte = 0; byte < 4; byte++) event[16 + byte] = (uint8_t)((uint32_t)level >> (8 * byte));
 }
 
 /* BEGIN: a page of 1 to 8 different keys is opened, a partition's node its coordinator. Beyond 8, no key is read. */
-static inline void level_archive_begin(uint8_t event[LEVEL_ARCHIVE_EVENT_BYTES], uint8_t session, uint8_t partition,
-                                       const uint8_t *keys, uint8_t count) {
+static inline void level_archive_event_begin(uint8_t event[LEVEL_ARCHIVE_EVENT_BYTES], uint8_t session,
+                                             uint8_t partition, const uint8_t *keys, uint8_t count) {
     int place;
-    level_archive_event(event, 6, 0, partition, session, 0);
+    level_archive_event_fields(event, LEVEL_ARCHIVE_EVENT_BEGIN, 0, partition, session, 0);
     event[7] = count;
     for (place = 0; place < count && place < LEVEL_ARCHIVE_PAGE_KEYS; place++) event[20 + place] = keys[place];
 }
 
 /* READ: a key of the page is shown. */
-static inline void level_archive_read(uint8_t event[LEVEL_ARCHIVE_EVENT_BYTES], uint8_t session, uint8_t key) {
-    level_archive_event(event, 7, 0, 0, session, key);
+static inline void level_archive_event_read(uint8_t event[LEVEL_ARCHIVE_EVENT_BYTES], uint8_t session, uint8_t key) {
+    level_archive_event_fields(event, LEVEL_ARCHIVE_EVENT_READ, 0, 0, session, key);
 }
 
 /* END: the page, read, is closed. */
-static inline void level_archive_end(uint8_t event[LEVEL_ARCHIVE_EVENT_BYTES], uint8_t session) {
-    level_archive_event(event, 8, 0, 0, session, 0);
+static inline void level_archive_event_end(uint8_t event[LEVEL_ARCHIVE_EVENT_BYTES], uint8_t session) {
+    level_archive_event_fields(event, LEVEL_ARCHIVE_EVENT_END, 0, 0, session, 0);
 }
 
 /* BEAT: a node tells the other sites its clock. */
-static inline void level_archive_beat(uint8_t event[LEVEL_ARCHIVE_EVENT_BYTES], uint8_t site, uint8_t partition) {
-    level_archive_event(event, 9, site, partition, 0, 0);
+static inline void level_archive_event_beat(uint8_t event[LEVEL_ARCHIVE_EVENT_BYTES], uint8_t site, uint8_t partition) {
+    level_archive_event_fields(event, LEVEL_ARCHIVE_EVENT_BEAT, site, partition, 0, 0);
 }
 
 /* DELIVER: the front message of the channel between two sites arrives. */
-static inline void level_archive_deliver(uint8_t event[LEVEL_ARCHIVE_EVENT_BYTES], uint8_t from, uint8_t to,
-                                         uint8_t partition) {
-    level_archive_event(event, 10, to, partition, 0, 0);
+static inline void level_archive_event_deliver(uint8_t event[LEVEL_ARCHIVE_EVENT_BYTES], uint8_t from, uint8_t to,
+                                               uint8_t partition) {
+    level_archive_event_fields(event, LEVEL_ARCHIVE_EVENT_DELIVER, to, partition, 0, 0);
     event[6] = from;
 }
 

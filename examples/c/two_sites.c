@@ -30,27 +30,27 @@ int main(void) {
     uint8_t event[LEVEL_ARCHIVE_EVENT_BYTES];
 
     print("set up 2 sites, 1 partition", level_archive_setup(table, sizeof table, 2, 1));
-    level_archive_open(event, DESK, 0);
+    level_archive_event_open(event, DESK, 0);
     step("the desk opens at site 0", event);
-    level_archive_open(event, OFFICE, 1);
+    level_archive_event_open(event, OFFICE, 1);
     step("the office opens at site 1", event);
 
-    level_archive_put(event, DESK, GAUGE, LEVEL_ARCHIVE_MEASURED, 1250);
+    level_archive_event_put(event, DESK, GAUGE, LEVEL_ARCHIVE_MEASURED, 1250);
     step("the desk writes too early", event); /* its node's clock still stands at 0 */
-    level_archive_clock(event, 0, 0, 100);
+    level_archive_event_clock(event, 0, 0, 100);
     step("the clock of site 0 moves", event);
-    level_archive_put(event, DESK, GAUGE, LEVEL_ARCHIVE_MEASURED, 1250);
+    level_archive_event_put(event, DESK, GAUGE, LEVEL_ARCHIVE_MEASURED, 1250);
     step("the desk writes", event);
-    level_archive_get(event, DESK, GAUGE);
+    level_archive_event_get(event, DESK, GAUGE);
     step("the desk reads", event);
 
-    level_archive_get(event, OFFICE, GAUGE);
+    level_archive_event_get(event, OFFICE, GAUGE);
     step("the office reads", event); /* the update is still on its way */
-    level_archive_deliver(event, 0, 1, 0);
+    level_archive_event_deliver(event, 0, 1, 0);
     step("the update arrives at site 1", event);
-    level_archive_get(event, OFFICE, GAUGE);
+    level_archive_event_get(event, OFFICE, GAUGE);
     step("the office reads", event);
-    level_archive_deliver(event, 0, 1, 0);
+    level_archive_event_deliver(event, 0, 1, 0);
     step("nothing more is on its way", event);
     return 0;
 }

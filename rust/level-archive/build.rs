@@ -13,10 +13,21 @@ fn folder() -> PathBuf {
     }
 }
 
+/// The library is machine code of x86_64 Linux.
+fn is_served() -> bool {
+    let target = |part: &str| env::var(format!("CARGO_CFG_TARGET_{part}")).unwrap_or_default();
+    target("ARCH") == "x86_64" && target("OS") == "linux"
+}
+
 fn main() {
     let library = folder().join("libarchive.a");
     println!("cargo::rerun-if-env-changed={VARIABLE}");
     println!("cargo::rerun-if-changed={}", library.display());
+    if !is_served() {
+        let target = env::var("TARGET").unwrap_or_default();
+        println!("cargo::error=libarchive.a is for x86_64 Linux alone, not for {target}");
+        return;
+    }
     let Ok(library) = library.canonicalize() else {
         println!("cargo::error=there is no {}", library.display());
         println!(

@@ -9,9 +9,6 @@
 //! * [`report`] makes a failing list of events short and prints it.
 //! * [`settings`] are the seed and the number of lists.
 
-#![forbid(unsafe_code)]
-#![warn(missing_docs)]
-
 pub mod chains;
 pub mod damage;
 pub mod follow;

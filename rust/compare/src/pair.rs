@@ -5,7 +5,7 @@ use std::fmt;
 use level_archive::{ANSWER_BYTES, EVENT_BYTES};
 use plain::{Answer, table};
 
-use crate::subject::{Subject, Told, answer, told};
+use crate::subject::Subject;
 
 /// A subject and the independent implementation in the same state.
 pub struct Pair<S> {
@@ -58,7 +58,7 @@ impl<S: Subject> Pair<S> {
         self.place += 1;
         let of_plain = self.plain.step(event);
         self.compare(event, &of_subject, &of_plain)?;
-        Ok(answer(&of_subject))
+        Ok(of_plain)
     }
 
     /// Many events of 32 bytes with one check, the last one maybe shorter.
@@ -68,12 +68,11 @@ impl<S: Subject> Pair<S> {
         let mut bytes = vec![0xa5; (pieces + 1) * ANSWER_BYTES];
         let number = self.subject.run(events, &mut bytes[..pieces * ANSWER_BYTES]);
         let mut answers = Vec::with_capacity(pieces);
-        let (given, _) = bytes.as_chunks();
-        for (event, of_subject) in events.chunks(EVENT_BYTES).zip(given) {
+        for (event, of_subject) in events.chunks(EVENT_BYTES).zip(bytes.chunks(ANSWER_BYTES)) {
             self.place += 1;
             let of_plain = self.plain.step(event);
             self.compare(event, of_subject, &of_plain)?;
-            answers.push(answer(of_subject));
+            answers.push(of_plain);
         }
         if number != pieces || bytes[pieces * ANSWER_BYTES..] != [0xa5; ANSWER_BYTES] {
             return Err(self.difference(format!("run answered {number} of {pieces} events")));
@@ -90,12 +89,12 @@ impl<S: Subject> Pair<S> {
         differs.map_or(Ok(()), |what| Err(self.difference(what)))
     }
 
-    fn compare(&self, event: &[u8], subject: &Told, plain: &Answer) -> Result<(), Difference> {
-        if *subject == told(plain) {
+    fn compare(&self, event: &[u8], subject: &[u8], plain: &Answer) -> Result<(), Difference> {
+        if subject == plain.to_bytes() {
             return Ok(());
         }
-        let what = format!("{event:?} gives {:?}, and should give {plain:?}", answer(subject));
-        Err(self.difference(what))
+        let subject = level_archive::Answer::try_from(subject);
+        Err(self.difference(format!("{event:?} gives {subject:?}, and should give {plain:?}")))
     }
 
     fn difference(&self, what: String) -> Difference {

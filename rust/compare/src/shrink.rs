@@ -11,9 +11,10 @@ pub fn shrink<T: Clone>(list: &[T], fails: impl Fn(&[T]) -> bool) -> Vec<T> {
         while from < list.len() {
             let to = (from + size).min(list.len());
             let fewer = [&list[..from], &list[to..]].concat();
-            match fails(&fewer) {
-                true => list = fewer,
-                false => from = to,
+            if fails(&fewer) {
+                list = fewer;
+            } else {
+                from = to;
             }
         }
         // Single events are tried again until none can go.

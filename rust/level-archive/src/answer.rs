@@ -1,6 +1,7 @@
 //! Answers: typed, as document 01's five values, and in 16 bytes.
 
-use std::fmt;
+use core::error::Error;
+use core::fmt;
 
 use crate::ANSWER_BYTES;
 use crate::part::Part;
@@ -10,13 +11,16 @@ use crate::refusal::Refusal;
 /// What a call gives back.
 ///
 /// ```
-/// use level_archive::{Answer, Reading};
+/// use level_archive::{Answer, Quality, Reading};
 ///
-/// let answer = Answer::Value(Reading { source: 0, quality: 0, level: 1250, stamp: 100 });
+/// let quality = Quality::Measured;
+/// let answer = Answer::Value(Reading { source: 0, quality, level: 1250, stamp: 100 });
 /// assert_eq!(answer.number(), 1);
 /// assert_eq!(answer.to_string(), "1250 mm, measured, site 0 at 100");
+/// assert_eq!(Answer::try_from(&answer.to_bytes()[..]), Ok(answer));
 /// ```
 #[derive(Clone, Copy, Debug, PartialEq, Eq, Hash)]
+#[non_exhaustive]
 pub enum Answer {
     /// 0: done.
     Done,
@@ -42,8 +46,8 @@ pub enum Answer {
 pub struct Reading {
     /// The site at which it was written.
     pub source: u8,
-    /// 0 measured, 1 corrected, 2 estimated: see [`Quality`].
-    pub quality: u8,
+    /// How it came to be known.
+    pub quality: Quality,
     /// mm from datum.
     pub level: i32,
     /// Its stamp at the source.
@@ -54,6 +58,7 @@ pub struct Reading {
 /// in which the bench prints them. What a number does not fill is zero.
 #[derive(Clone, Copy, Debug, Default, PartialEq, Eq, Hash)]
 #[repr(C)]
+#[must_use]
 pub struct Values {
     /// 0 done, 1 value, 2 nothing recorded, 3 wait, 10 to 24 refused.
     pub number: u8,
@@ -69,18 +74,36 @@ pub struct Values {
 
 impl Answer {
     /// Document 01's number.
-    pub fn number(&self) -> u8 {
+    pub fn number(self) -> u8 {
         self.values().number
     }
 
-    /// Document 01's five values.
-    pub fn values(&self) -> Values {
+    /// The answer, or why the event was refused. A wait is no refusal.
+    ///
+    /// ```
+    /// use level_archive::{Answer, Archive, Event, Refusal};
+    ///
+    /// let mut archive = Archive::new(1, 1)?;
+    /// archive.step(&Event::open(3, 0)).result()?;
+    /// assert_eq!(archive.step(&Event::get(3, 9)).result(), Ok(Answer::Nothing));
+    /// assert_eq!(archive.step(&Event::end(3)).result(), Err(Refusal::NoPage));
+    /// # Ok::<(), Refusal>(())
+    /// ```
+    pub fn result(self) -> Result<Answer, Refusal> {
+        match self {
+            Answer::Refused(refusal) => Err(refusal),
+            answer => Ok(answer),
+        }
+    }
+
+    /// Document 01's five values; `try_from` is the way back.
+    pub fn values(self) -> Values {
         let only = |number| Values { number, ..Values::default() };
-        match *self {
+        match self {
             Answer::Done => only(0),
             Answer::Written { source, stamp } => Values { source, stamp, ..only(0) },
             Answer::Value(Reading { source, quality, level, stamp }) => {
-                Values { number: 1, source, quality, level, stamp }
+                Values { number: 1, source, quality: quality.number(), level, stamp }
             }
             Answer::Nothing => only(2),
             Answer::Wait => only(3),
@@ -88,23 +111,9 @@ impl Answer {
         }
     }
 
-    /// The answer whose [`values`](Answer::values) these are; `None` for values
-    /// that the archive does not give.
-    pub fn from_values(values: Values) -> Option<Answer> {
-        let Values { number, source, quality, level, stamp } = values;
-        let answer = match number {
-            0 if stamp == 0 => Answer::Done,
-            0 => Answer::Written { source, stamp },
-            1 => Answer::Value(Reading { source, quality, level, stamp }),
-            2 => Answer::Nothing,
-            3 => Answer::Wait,
-            _ => Answer::Refused(Refusal::from_number(number)?),
-        };
-        (answer.values() == values).then_some(answer)
-    }
-
-    /// Its 16 bytes, as [`Archive::run_bytes`](crate::Archive::run_bytes) writes them.
-    pub fn to_bytes(&self) -> [u8; ANSWER_BYTES] {
+    /// Its 16 bytes, as [`Archive::run_into`](crate::Archive::run_into) writes them;
+    /// `try_from` is the way back.
+    pub fn to_bytes(self) -> [u8; ANSWER_BYTES] {
         let Values { number, source, quality, level, stamp } = self.values();
         let mut bytes = [0; ANSWER_BYTES];
         bytes[..3].copy_from_slice(&[number, source, quality]);
@@ -113,30 +122,60 @@ impl Answer {
         bytes
     }
 
-    /// The answer in 16 bytes; `None` for bytes that the archive does not give.
-    pub fn from_bytes(bytes: &[u8]) -> Option<Answer> {
+    /// Of what the core gave. It gives nothing that is no answer; if it did, its
+    /// table would not be one to go on with.
+    pub(crate) fn of_core(given: impl TryInto<Answer>) -> Answer {
+        given.try_into().unwrap_or(Answer::Refused(Refusal::IllFormed))
+    }
+}
+
+impl TryFrom<Values> for Answer {
+    type Error = AnswerError;
+
+    fn try_from(values: Values) -> Result<Answer, AnswerError> {
+        let Values { number, source, quality, level, stamp } = values;
+        let answer = match number {
+            0 if stamp == 0 => Answer::Done,
+            0 => Answer::Written { source, stamp },
+            1 => {
+                let quality = Quality::try_from(quality).map_err(|_| AnswerError)?;
+                Answer::Value(Reading { source, quality, level, stamp })
+            }
+            2 => Answer::Nothing,
+            3 => Answer::Wait,
+            _ => Answer::Refused(Refusal::try_from(number).map_err(|_| AnswerError)?),
+        };
+        if answer.values() == values { Ok(answer) } else { Err(AnswerError) }
+    }
+}
+
+impl TryFrom<&[u8]> for Answer {
+    type Error = AnswerError;
+
+    fn try_from(bytes: &[u8]) -> Result<Answer, AnswerError> {
         let part = Part(bytes);
-        let answer = Answer::from_values(Values {
+        let answer = Answer::try_from(Values {
             number: part.byte(0),
             source: part.byte(1),
             quality: part.byte(2),
             level: part.level(4),
             stamp: part.number(8),
         })?;
-        (answer.to_bytes() == bytes).then_some(answer)
-    }
-
-    /// Of the core's values. The core gives no others than `from_values` takes;
-    /// if it did, its table would not be one to go on with.
-    pub(crate) fn of_core(values: Values) -> Answer {
-        Answer::from_values(values).unwrap_or(Answer::Refused(Refusal::IllFormed))
-    }
-
-    /// Of the core's 16 bytes, likewise.
-    pub(crate) fn of_core_bytes(bytes: &[u8]) -> Answer {
-        Answer::from_bytes(bytes).unwrap_or(Answer::Refused(Refusal::IllFormed))
+        if answer.to_bytes() == bytes { Ok(answer) } else { Err(AnswerError) }
     }
 }
+
+/// Values or bytes that the archive does not give.
+#[derive(Clone, Copy, Debug, PartialEq, Eq, Hash)]
+pub struct AnswerError;
+
+impl fmt::Display for AnswerError {
+    fn fmt(&self, f: &mut fmt::Formatter<'_>) -> fmt::Result {
+        f.pad("the archive gives no such answer")
+    }
+}
+
+impl Error for AnswerError {}
 
 impl fmt::Display for Answer {
     fn fmt(&self, f: &mut fmt::Formatter<'_>) -> fmt::Result {
@@ -153,12 +192,8 @@ impl fmt::Display for Answer {
 
 impl fmt::Display for Reading {
     fn fmt(&self, f: &mut fmt::Formatter<'_>) -> fmt::Result {
-        write!(f, "{} mm, ", self.level)?;
-        match Quality::try_from(self.quality) {
-            Ok(quality) => write!(f, "{quality}")?,
-            Err(number) => write!(f, "quality {number}")?,
-        }
-        write!(f, ", site {} at {}", self.source, self.stamp)
+        let Reading { source, quality, level, stamp } = self;
+        write!(f, "{level} mm, {quality}, site {source} at {stamp}")
     }
 }
 

@@ -1,6 +1,10 @@
 //! The archive over its table. What a call answers, the proved core decides.
 
-use std::fmt;
+use alloc::boxed::Box;
+use alloc::vec;
+use alloc::vec::Vec;
+use core::error::Error;
+use core::fmt;
 
 use crate::answer::Answer;
 use crate::event::Event;
@@ -15,8 +19,8 @@ use crate::{ANSWER_BYTES, EVENT_BYTES, TABLE_BYTES, sys};
 /// use level_archive::{Answer, Archive, Event, Quality};
 ///
 /// let mut archive = Archive::new(2, 1)?;
-/// archive.step(&Event::open(0, 0));
-/// archive.step(&Event::clock(0, 0, 100));
+/// archive.step(&Event::open(0, 0)).result()?;
+/// archive.step(&Event::clock(0, 0, 100)).result()?;
 /// let answer = archive.step(&Event::put(0, 7, Quality::Measured, 1250));
 /// assert_eq!(answer, Answer::Written { source: 0, stamp: 100 });
 /// assert_eq!(archive.step(&Event::get(0, 7)).to_string(), "1250 mm, measured, site 0 at 100");
@@ -30,8 +34,7 @@ pub struct Archive<B = Box<[u8]>> {
 impl Archive {
     /// An empty archive with a table of its own. Refuses a number that isn't 1 to 4.
     pub fn new(sites: u32, partitions: u32) -> Result<Archive, Refusal> {
-        let bytes = vec![0; TABLE_BYTES].into_boxed_slice();
-        Archive::setup(bytes, sites, partitions).map_err(|(refusal, _)| refusal)
+        Ok(Archive::setup(vec![0; TABLE_BYTES].into_boxed_slice(), sites, partitions)?)
     }
 }
 
@@ -43,15 +46,18 @@ impl<B: AsRef<[u8]> + AsMut<[u8]>> Archive<B> {
     /// use level_archive::{Archive, Refusal, TABLE_BYTES};
     ///
     /// let mut bytes = vec![0xff; TABLE_BYTES];
-    /// let archive = Archive::setup(&mut bytes[..], 4, 4).map_err(|(refusal, _)| refusal)?;
-    /// assert_eq!(archive.bytes()[..3], [4, 4, 0]);
-    /// assert_eq!(Archive::setup([7; 3], 4, 4), Err((Refusal::WrongLength, [7; 3])));
+    /// let archive = Archive::setup(&mut bytes[..], 4, 4)?;
+    /// assert_eq!(archive.as_bytes()[..3], [4, 4, 0]);
+    ///
+    /// let error = Archive::setup([7; 3], 4, 4).unwrap_err();
+    /// assert_eq!(error.refusal(), Refusal::WrongLength);
+    /// assert_eq!(error.into_bytes(), [7; 3]);
     /// # Ok::<(), Refusal>(())
     /// ```
-    pub fn setup(mut bytes: B, sites: u32, partitions: u32) -> Result<Archive<B>, (Refusal, B)> {
-        match Answer::of_core(sys::setup(bytes.as_mut(), sites, partitions)) {
-            Answer::Refused(refusal) => Err((refusal, bytes)),
-            _ => Ok(Archive { bytes }),
+    pub fn setup(mut bytes: B, sites: u32, partitions: u32) -> Result<Archive<B>, SetupError<B>> {
+        match Answer::of_core(sys::setup(bytes.as_mut(), sites, partitions)).result() {
+            Ok(_) => Ok(Archive { bytes }),
+            Err(refusal) => Err(SetupError { refusal, bytes }),
         }
     }
 
@@ -70,11 +76,13 @@ impl<B: AsRef<[u8]> + AsMut<[u8]>> Archive<B> {
 
     /// One event. The whole table is checked first; [`run`](Archive::run) checks it
     /// once for many.
+    #[must_use = "the event may have to wait, or be refused"]
     pub fn step(&mut self, event: &Event) -> Answer {
         self.step_bytes(&event.to_bytes())
     }
 
     /// One event's bytes; any bytes.
+    #[must_use = "the event may have to wait, or be refused"]
     pub fn step_bytes(&mut self, event: &[u8]) -> Answer {
         Answer::of_core(sys::step(self.bytes.as_mut(), event))
     }
@@ -89,38 +97,40 @@ impl<B: AsRef<[u8]> + AsMut<[u8]>> Archive<B> {
     /// assert_eq!(answers, [Answer::Done, Answer::Nothing]);
     /// # Ok::<(), level_archive::Refusal>(())
     /// ```
+    #[must_use = "events may have to wait, or be refused"]
     pub fn run(&mut self, events: &[Event]) -> Vec<Answer> {
-        let bytes: Vec<u8> = events.iter().flat_map(Event::to_bytes).collect();
-        self.answers_to(&bytes)
+        let bytes: Vec<u8> = events.iter().flat_map(|event| event.to_bytes()).collect();
+        self.run_bytes(&bytes)
+    }
+
+    /// Many events' bytes. A left-over piece at the end is an event that isn't 32
+    /// bytes, and gets 23.
+    #[must_use = "events may have to wait, or be refused"]
+    pub fn run_bytes(&mut self, events: &[u8]) -> Vec<Answer> {
+        let mut answers = vec![0; events.len().div_ceil(EVENT_BYTES) * ANSWER_BYTES];
+        self.run_into(events, &mut answers);
+        answers.chunks(ANSWER_BYTES).map(Answer::of_core).collect()
     }
 
     /// Many events' bytes, straight to the core: 16 bytes an answer, for as many
     /// events as there is room for; their number is given back.
     ///
     /// ```
-    /// use level_archive::{Answer, Archive, Event};
+    /// use level_archive::{Answer, Archive, Event, Refusal};
     ///
     /// let mut archive = Archive::new(1, 1)?;
     /// let events = [Event::open(0, 0).to_bytes(), Event::open(0, 0).to_bytes()].concat();
     /// let mut answers = [0; 32];
-    /// assert_eq!(archive.run_bytes(&events, &mut answers), 2);
-    /// assert_eq!(Answer::from_bytes(&answers[16..]).map(|answer| answer.number()), Some(13));
-    /// # Ok::<(), level_archive::Refusal>(())
+    /// assert_eq!(archive.run_into(&events, &mut answers), 2);
+    /// assert_eq!(Answer::try_from(&answers[16..]), Ok(Answer::Refused(Refusal::AlreadyOpen)));
+    /// # Ok::<(), Refusal>(())
     /// ```
-    pub fn run_bytes(&mut self, events: &[u8], answers: &mut [u8]) -> usize {
+    pub fn run_into(&mut self, events: &[u8], answers: &mut [u8]) -> usize {
         sys::run(self.bytes.as_mut(), events, answers)
     }
 
-    /// Many events' bytes. A left-over piece at the end is an event that isn't 32
-    /// bytes, and gets 23.
-    pub fn answers_to(&mut self, events: &[u8]) -> Vec<Answer> {
-        let mut answers = vec![0; events.len().div_ceil(EVENT_BYTES) * ANSWER_BYTES];
-        self.run_bytes(events, &mut answers);
-        answers.chunks(ANSWER_BYTES).map(Answer::of_core_bytes).collect()
-    }
-
     /// The table's bytes.
-    pub fn bytes(&self) -> &[u8] {
+    pub fn as_bytes(&self) -> &[u8] {
         self.bytes.as_ref()
     }
 
@@ -129,18 +139,56 @@ impl<B: AsRef<[u8]> + AsMut<[u8]>> Archive<B> {
         self.bytes
     }
 
-    /// What the table says, read only; `None` unless it has 57,344 bytes with 1 to
-    /// 4 sites and partitions.
-    pub fn view(&self) -> Option<View<'_>> {
-        View::of(self.bytes())
+    /// What the table says, read only: see [`View::new`].
+    pub fn view(&self) -> Result<View<'_>, Refusal> {
+        View::new(self.as_bytes())
     }
 }
 
 impl<B: AsRef<[u8]>> fmt::Debug for Archive<B> {
     fn fmt(&self, f: &mut fmt::Formatter<'_>) -> fmt::Result {
-        match View::of(self.bytes.as_ref()) {
-            Some(view) => write!(f, "Archive({view:?})"),
-            None => write!(f, "Archive({} bytes)", self.bytes.as_ref().len()),
+        match View::new(self.bytes.as_ref()) {
+            Ok(view) => write!(f, "Archive({view:?})"),
+            Err(_) => write!(f, "Archive({} bytes)", self.bytes.as_ref().len()),
         }
     }
 }
+
+/// A refused [`setup`](Archive::setup): why, and the bytes, unchanged.
+#[derive(Clone, Copy, PartialEq, Eq)]
+pub struct SetupError<B> {
+    refusal: Refusal,
+    bytes: B,
+}
+
+impl<B> SetupError<B> {
+    /// Why it was refused.
+    pub fn refusal(&self) -> Refusal {
+        self.refusal
+    }
+
+    /// The bytes, given back.
+    pub fn into_bytes(self) -> B {
+        self.bytes
+    }
+}
+
+impl<B> From<SetupError<B>> for Refusal {
+    fn from(error: SetupError<B>) -> Refusal {
+        error.refusal
+    }
+}
+
+impl<B> fmt::Debug for SetupError<B> {
+    fn fmt(&self, f: &mut fmt::Formatter<'_>) -> fmt::Result {
+        write!(f, "SetupError({:?})", self.refusal)
+    }
+}
+
+impl<B> fmt::Display for SetupError<B> {
+    fn fmt(&self, f: &mut fmt::Formatter<'_>) -> fmt::Result {
+        self.refusal.fmt(f)
+    }
+}
+
+impl<B> Error for SetupError<B> {}

@@ -1,4 +1,4 @@
-//! Events, typed. `event_bytes` has their bytes, `event_words` their words.
+//! Events, typed. `event_bytes` has their bytes, `event_text` their text.
 
 use crate::page_keys::{PageKeys, TooManyKeys};
 use crate::quality::Quality;
@@ -11,9 +11,11 @@ use crate::quality::Quality;
 ///
 /// let event = Event::put(0, 5, Quality::Corrected, -30);
 /// assert_eq!(event.to_string(), "PUT session 0 key 5 quality 1 level -30");
-/// assert_eq!(Event::from_bytes(&event.to_bytes()), Ok(event));
+/// assert_eq!("PUT session 0 key 5 quality 1 level -30".parse(), Ok(event));
+/// assert_eq!(Event::try_from(&event.to_bytes()[..]), Ok(event));
 /// ```
 #[derive(Clone, Copy, Debug, PartialEq, Eq, Hash)]
+#[non_exhaustive]
 pub enum Event {
     /// 1: a session begins at a site.
     Open {
@@ -131,8 +133,8 @@ impl Event {
     /// ```
     pub const fn begin(session: u8, partition: u8, keys: &[u8]) -> Result<Event, TooManyKeys> {
         match PageKeys::new(keys) {
-            Some(keys) => Ok(Event::Begin { session, partition, keys }),
-            None => Err(TooManyKeys),
+            Ok(keys) => Ok(Event::Begin { session, partition, keys }),
+            Err(error) => Err(error),
         }
     }
 
@@ -154,5 +156,19 @@ impl Event {
     /// DELIVER: the front message of the channel between two sites arrives.
     pub const fn deliver(from: u8, to: u8, partition: u8) -> Event {
         Event::Deliver { from, site: to, partition }
+    }
+
+    /// The session that it names, if it names one.
+    pub const fn session(self) -> Option<u8> {
+        match self {
+            Event::Open { session, .. }
+            | Event::Close { session }
+            | Event::Get { session, .. }
+            | Event::Put { session, .. }
+            | Event::Begin { session, .. }
+            | Event::Read { session, .. }
+            | Event::End { session } => Some(session),
+            Event::Clock { .. } | Event::Beat { .. } | Event::Deliver { .. } => None,
+        }
     }
 }

@@ -2,8 +2,8 @@
 //! 2 partition, 3 session, 4 key, 5 quality, 6 from, 7 count, 8–15 time,
 //! 16–19 level, 20–27 page keys, 28–31 zero.
 
-use std::error::Error;
-use std::fmt;
+use core::error::Error;
+use core::fmt;
 
 use crate::EVENT_BYTES;
 use crate::event::Event;
@@ -26,9 +26,9 @@ struct Fields {
 }
 
 impl Fields {
-    fn of(event: &Event) -> Fields {
+    fn of(event: Event) -> Fields {
         let none = Fields { code: event.code(), ..Fields::default() };
-        match *event {
+        match event {
             Event::Open { session, site } => Fields { session, site, ..none },
             Event::Close { session } | Event::End { session } => Fields { session, ..none },
             Event::Clock { site, partition, time } => Fields { site, partition, time, ..none },
@@ -50,7 +50,8 @@ impl Fields {
     fn in_bytes(bytes: Part) -> Result<Fields, EventError> {
         let code = bytes.byte(0);
         let count = if code == 6 { bytes.byte(7) } else { 0 };
-        let keys = bytes.part(20, 8).0.get(..count.into()).and_then(PageKeys::new);
+        let keys = bytes.part(20, 8).0.get(..count.into());
+        let keys = keys.and_then(|keys| PageKeys::new(keys).ok());
         Ok(Fields {
             code,
             site: bytes.byte(1),
@@ -86,7 +87,7 @@ impl Fields {
 
 impl Event {
     /// Its code, 1 to 10.
-    pub fn code(&self) -> u8 {
+    pub fn code(self) -> u8 {
         match self {
             Event::Open { .. } => 1,
             Event::Close { .. } => 2,
@@ -109,7 +110,7 @@ impl Event {
     /// let bytes = Event::clock(1, 2, 258).to_bytes();
     /// assert_eq!(bytes[..11], [3, 1, 2, 0, 0, 0, 0, 0, 2, 1, 0]); // numbers are little-endian
     /// ```
-    pub fn to_bytes(&self) -> [u8; EVENT_BYTES] {
+    pub fn to_bytes(self) -> [u8; EVENT_BYTES] {
         let Fields { code, site, partition, session, key, quality, from, time, level, keys } =
             Fields::of(self);
         let mut bytes = [0; EVENT_BYTES];
@@ -120,6 +121,10 @@ impl Event {
         bytes[20..28].copy_from_slice(&keys.bytes());
         bytes
     }
+}
+
+impl TryFrom<&[u8]> for Event {
+    type Error = EventError;
 
     /// The event whose [`to_bytes`](Event::to_bytes) these are. This is for
     /// showing bytes in words: the archive takes any bytes as they are.
@@ -128,11 +133,11 @@ impl Event {
     /// use level_archive::{Event, EventError};
     ///
     /// let mut bytes = Event::end(4).to_bytes();
-    /// assert_eq!(Event::from_bytes(&bytes), Ok(Event::end(4)));
+    /// assert_eq!(Event::try_from(&bytes[..]), Ok(Event::end(4)));
     /// bytes[31] = 1;
-    /// assert_eq!(Event::from_bytes(&bytes), Err(EventError::UnusedNotZero));
+    /// assert_eq!(Event::try_from(&bytes[..]), Err(EventError::UnusedNotZero));
     /// ```
-    pub fn from_bytes(bytes: &[u8]) -> Result<Event, EventError> {
+    fn try_from(bytes: &[u8]) -> Result<Event, EventError> {
         if bytes.len() != EVENT_BYTES {
             return Err(EventError::WrongLength);
         }
@@ -145,6 +150,7 @@ impl Event {
 
 /// Why bytes are not those of an [`Event`].
 #[derive(Clone, Copy, Debug, PartialEq, Eq, Hash)]
+#[non_exhaustive]
 pub enum EventError {
     /// Not 32 bytes.
     WrongLength,

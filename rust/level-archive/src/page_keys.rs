@@ -1,38 +1,47 @@
 //! The keys of a page.
 
-use std::error::Error;
-use std::fmt;
+use core::error::Error;
+use core::fmt;
+
+use crate::limits::PAGE_KEYS;
 
 /// Up to 8 keys. None, and any numbers, may be written: the archive refuses them.
 ///
 /// ```
-/// use level_archive::PageKeys;
+/// use level_archive::{PageKeys, TooManyKeys};
 ///
-/// assert_eq!(PageKeys::new(&[4, 5]).map(|keys| keys.as_slice().to_vec()), Some(vec![4, 5]));
-/// assert_eq!(PageKeys::new(&[0; 9]), None);
+/// assert_eq!(PageKeys::new(&[4, 5])?.as_slice(), [4, 5]);
+/// assert_eq!(PageKeys::new(&[0; 9]), Err(TooManyKeys));
+/// # Ok::<(), TooManyKeys>(())
 /// ```
 #[derive(Clone, Copy, Default, PartialEq, Eq, Hash)]
 pub struct PageKeys {
     count: u8,
-    keys: [u8; PageKeys::MOST], // zero from the count on
+    keys: [u8; ROOM], // zero from the count on
 }
 
-impl PageKeys {
-    /// How many there may be.
-    pub const MOST: usize = 8;
+const ROOM: usize = PAGE_KEYS as usize;
 
-    /// The keys in this order; `None` of more than 8.
-    pub const fn new(keys: &[u8]) -> Option<PageKeys> {
-        if keys.len() > PageKeys::MOST {
-            return None;
+impl PageKeys {
+    /// The keys in this order.
+    pub const fn new(keys: &[u8]) -> Result<PageKeys, TooManyKeys> {
+        if keys.len() > ROOM {
+            return Err(TooManyKeys);
         }
-        let mut page = PageKeys { count: keys.len() as u8, keys: [0; PageKeys::MOST] };
+        let mut page = PageKeys { count: keys.len() as u8, keys: [0; ROOM] };
         let mut place = 0;
         while place < keys.len() {
             page.keys[place] = keys[place];
             place += 1;
         }
-        Some(page)
+        Ok(page)
+    }
+
+    /// These keys and one more.
+    pub(crate) fn and(mut self, key: u8) -> Result<PageKeys, TooManyKeys> {
+        *self.keys.get_mut(usize::from(self.count)).ok_or(TooManyKeys)? = key;
+        self.count += 1;
+        Ok(self)
     }
 
     /// The keys.
@@ -46,8 +55,16 @@ impl PageKeys {
     }
 
     /// The eight bytes of an event, zero from the count on.
-    pub(crate) const fn bytes(&self) -> [u8; PageKeys::MOST] {
+    pub(crate) const fn bytes(&self) -> [u8; ROOM] {
         self.keys
+    }
+}
+
+impl TryFrom<&[u8]> for PageKeys {
+    type Error = TooManyKeys;
+
+    fn try_from(keys: &[u8]) -> Result<PageKeys, TooManyKeys> {
+        PageKeys::new(keys)
     }
 }
 

@@ -1,6 +1,7 @@
 //! A reading's quality.
 
-use std::fmt;
+use core::error::Error;
+use core::fmt;
 
 /// How a level came to be known.
 ///
@@ -8,7 +9,7 @@ use std::fmt;
 /// use level_archive::Quality;
 ///
 /// assert_eq!(Quality::try_from(1), Ok(Quality::Corrected));
-/// assert_eq!(Quality::try_from(3), Err(3));
+/// assert_eq!(Quality::try_from(3).unwrap_err().to_string(), "no quality has the number 3");
 /// assert_eq!(Quality::Estimated.to_string(), "estimated");
 /// ```
 #[derive(Clone, Copy, Debug, Default, PartialEq, Eq, PartialOrd, Ord, Hash)]
@@ -31,15 +32,14 @@ impl Quality {
 }
 
 impl TryFrom<u8> for Quality {
-    type Error = u8;
+    type Error = UnknownNumber;
 
-    /// The quality of a number; a number not 0 to 2 comes back.
-    fn try_from(number: u8) -> Result<Quality, u8> {
+    fn try_from(number: u8) -> Result<Quality, UnknownNumber> {
         match number {
             0 => Ok(Quality::Measured),
             1 => Ok(Quality::Corrected),
             2 => Ok(Quality::Estimated),
-            other => Err(other),
+            _ => Err(UnknownNumber { of: "quality", number }),
         }
     }
 }
@@ -59,3 +59,20 @@ impl fmt::Display for Quality {
         })
     }
 }
+
+/// A number that no quality or no refusal has.
+#[derive(Clone, Copy, Debug, PartialEq, Eq, Hash)]
+pub struct UnknownNumber {
+    /// What does not have it: `quality` or `refusal`.
+    pub of: &'static str,
+    /// The number.
+    pub number: u8,
+}
+
+impl fmt::Display for UnknownNumber {
+    fn fmt(&self, f: &mut fmt::Formatter<'_>) -> fmt::Result {
+        write!(f, "no {} has the number {}", self.of, self.number)
+    }
+}
+
+impl Error for UnknownNumber {}

@@ -1,7 +1,9 @@
 //! The refusals: document 01's numbers 10 to 24, each with its reason in words.
 
-use std::error::Error;
-use std::fmt;
+use core::error::Error;
+use core::fmt;
+
+use crate::quality::UnknownNumber;
 
 /// Why the archive refused. A refusal changes no byte of the table.
 ///
@@ -10,11 +12,12 @@ use std::fmt;
 ///
 /// let refusal = Archive::new(5, 1).err();
 /// assert_eq!(refusal, Some(Refusal::OutOfRange));
-/// assert_eq!(Refusal::NodeFull.number(), 22);
+/// assert_eq!(Refusal::try_from(22), Ok(Refusal::NodeFull));
 /// assert_eq!(Refusal::NodeFull.to_string(), "the node holds 32 records");
 /// ```
 #[derive(Clone, Copy, Debug, PartialEq, Eq, PartialOrd, Ord, Hash)]
 #[repr(u8)]
+#[non_exhaustive]
 pub enum Refusal {
     /// 10: the code isn't 1 to 10.
     UnknownCode = 10,
@@ -51,7 +54,7 @@ pub enum Refusal {
 
 impl Refusal {
     /// All of them, by number.
-    pub const ALL: [Refusal; 15] = [
+    pub const ALL: &[Refusal] = &[
         Refusal::UnknownCode,
         Refusal::OutOfRange,
         Refusal::NotOpen,
@@ -72,11 +75,6 @@ impl Refusal {
     /// Document 01's number, 10 to 24.
     pub const fn number(self) -> u8 {
         self as u8
-    }
-
-    /// The refusal of a number, if it is 10 to 24.
-    pub fn from_number(number: u8) -> Option<Refusal> {
-        Refusal::ALL.into_iter().find(|refusal| refusal.number() == number)
     }
 
     /// The reason in words.
@@ -100,6 +98,15 @@ impl Refusal {
             Refusal::WrongLength => "the table is not 57,344 bytes, or the event is not 32",
             Refusal::IllFormed => "the table is not well formed",
         }
+    }
+}
+
+impl TryFrom<u8> for Refusal {
+    type Error = UnknownNumber;
+
+    fn try_from(number: u8) -> Result<Refusal, UnknownNumber> {
+        let found = Refusal::ALL.iter().find(|refusal| refusal.number() == number);
+        found.copied().ok_or(UnknownNumber { of: "refusal", number })
     }
 }
 

@@ -1,16 +1,17 @@
 //! The command line: which command, its options, its help, its exit code.
 //!
 //! 0 is success, 1 a file that can't be read or written, 2 a wrong command line or
-//! input. A refused event is no failure: it is what the run shows.
+//! input. A refused event is no failure: it is what the run shows. With `--strict` it
+//! is one, 3.
 
 mod archive;
 mod decode;
 mod draw;
 mod encode;
 mod help;
+mod lines;
 mod options;
 mod output;
-mod progress;
 mod run;
 
 use std::ffi::OsString;
@@ -21,14 +22,19 @@ use crate::failure::Failure;
 use options::Options;
 use output::Output;
 
-/// The four commands.
-#[derive(Clone, Copy, Debug, PartialEq, Eq)]
-enum Command {
-    Encode,
-    Decode,
-    Run,
-    Draw,
+/// A command: its name, its help and what it does.
+struct Command {
+    name: &'static str,
+    help: &'static str,
+    run: fn(&Options) -> Result<(), Failure>,
 }
+
+static COMMANDS: [Command; 4] = [
+    Command { name: "encode", help: help::ENCODE, run: encode::encode },
+    Command { name: "decode", help: help::DECODE, run: decode::decode },
+    Command { name: "run", help: help::RUN, run: run::run },
+    Command { name: "draw", help: help::DRAW, run: draw::draw },
+];
 
 /// The whole command, given what stands behind its name.
 pub fn main(arguments: impl Iterator<Item = OsString>) -> ExitCode {
@@ -53,24 +59,16 @@ fn start(arguments: Vec<OsString>) -> Result<(), Failure> {
             return say(concat!("levels ", env!("CARGO_PKG_VERSION"), "\n"));
         }
         Some("help") => return help_for(arguments.next()),
-        Some(name) => Command::named(name)?,
+        Some(name) => named(name)?,
     };
-    let options = Options::parse(command, arguments)?;
-    if options.help {
-        return say(command.help());
-    }
-    match command {
-        Command::Encode => encode::encode(&options),
-        Command::Decode => decode::decode(&options),
-        Command::Run => run::run(&options),
-        Command::Draw => draw::draw(&options),
-    }
+    let options = Options::parse(command.name, arguments)?;
+    if options.help { say(command.help) } else { (command.run)(&options) }
 }
 
 fn help_for(name: Option<OsString>) -> Result<(), Failure> {
     match name {
         None => say(help::ALL),
-        Some(name) => say(Command::named(&name.to_string_lossy())?.help()),
+        Some(name) => say(named(&name.to_string_lossy())?.help),
     }
 }
 
@@ -81,35 +79,9 @@ fn say(text: &str) -> Result<(), Failure> {
     output.finish()
 }
 
-impl Command {
-    fn named(name: &str) -> Result<Command, Failure> {
-        Ok(match name {
-            "encode" => Command::Encode,
-            "decode" => Command::Decode,
-            "run" => Command::Run,
-            "draw" => Command::Draw,
-            _ => {
-                let known = "the commands are encode, decode, run and draw; see levels --help";
-                return Err(Failure::Usage(format!("there is no command {name}: {known}")));
-            }
-        })
-    }
-
-    fn name(self) -> &'static str {
-        match self {
-            Command::Encode => "encode",
-            Command::Decode => "decode",
-            Command::Run => "run",
-            Command::Draw => "draw",
-        }
-    }
-
-    fn help(self) -> &'static str {
-        match self {
-            Command::Encode => help::ENCODE,
-            Command::Decode => help::DECODE,
-            Command::Run => help::RUN,
-            Command::Draw => help::DRAW,
-        }
-    }
+fn named(name: &str) -> Result<&'static Command, Failure> {
+    COMMANDS.iter().find(|command| command.name == name).ok_or_else(|| {
+        let known = "the commands are encode, decode, run and draw; see levels --help";
+        Failure::Usage(format!("there is no command {name}: {known}"))
+    })
 }

@@ -25,7 +25,7 @@ use mark::Mark;
 use marks::marks_of;
 use rows::Rows;
 use spans::spans;
-use style::{LEFT, STYLE};
+use style::{LEFT, NUMBERS, STYLE};
 use travels::travels;
 use xml::Xml;
 
@@ -48,7 +48,7 @@ pub fn picture(happenings: &[Happening]) -> String {
         .enumerate()
         .map(|(event, happening)| marks_of(happening, &travels.left_over(event)))
         .collect();
-    let rows = Rows::of(&marks);
+    let rows = Rows::of(marks.iter().flatten().map(|mark| mark.row));
     let columns = Columns::of(&marks);
     let plan = Plan { happenings, marks, rows, columns };
 
@@ -56,13 +56,10 @@ pub fn picture(happenings: &[Happening]) -> String {
     let legend_top = plan.rows.bottom();
     let height = legend_top + legend::HEIGHT;
     let mut xml = Xml::svg(width, height);
-    xml.text(
-        "title",
-        &[],
-        &format!("{} of a level archive", counted(happenings.len() as u64, "event")),
-    );
-    xml.text("style", &[], STYLE);
-    xml.leaf("rect", &[("width", &width), ("height", &height), ("fill", &"#fff")]);
+    let events = counted(happenings.len() as u64, "event");
+    xml.text("title", "", &format!("{events} of a level archive"));
+    xml.text("style", "", STYLE);
+    xml.leaf("rect", format_args!(r##"width="{width}" height="{height}" fill="#fff""##));
     paths::arrow_heads(&mut xml);
     paths::lines(&mut xml, &plan);
     paths::guides(&mut xml, &plan);
@@ -82,27 +79,20 @@ pub fn picture(happenings: &[Happening]) -> String {
 /// An event's number and its marks, which tell its sentence.
 fn draw_event(xml: &mut Xml, plan: &Plan, event: usize) {
     let happening = &plan.happenings[event];
-    let x = plan.columns.x(event);
-    xml.text(
-        "text",
-        &[("class", &"number"), ("x", &x), ("y", &style::NUMBERS)],
-        &happening.number.to_string(),
-    );
-    xml.open("g", &[]);
-    xml.text("title", &[], &format!("{}. {}", happening.number, Sentence(happening)));
+    let (x, number) = (plan.columns.x(event), happening.number);
+    let place = format_args!(r#"class="number" x="{x}" y="{NUMBERS}""#);
+    xml.text("text", place, &number.to_string());
+    xml.open("g", "");
+    xml.text("title", "", &format!("{number}. {}", Sentence(happening)));
     for mark in &plan.marks[event] {
         let y = plan.rows.y(mark.row);
         paths::stubs(xml, x, y, mark);
         shapes::draw(xml, x, y, mark.shape, mark.session);
-        labels(xml, x, y, mark);
+        for (text, baseline) in mark.lines(y) {
+            xml.text("text", format_args!(r#"class="label" x="{x}" y="{baseline}""#), text);
+        }
     }
     xml.close();
-}
-
-fn labels(xml: &mut Xml, x: i32, y: i32, mark: &Mark) {
-    for (text, baseline) in mark.lines(y) {
-        xml.text("text", &[("class", &"label"), ("x", &x), ("y", &baseline)], text);
-    }
 }
 
 impl Plan<'_> {

@@ -3,6 +3,8 @@
 use std::fmt;
 use std::io;
 
+use crate::words::counted;
+
 /// Why the command ends early.
 #[derive(Clone, Debug, PartialEq, Eq)]
 pub enum Failure {
@@ -12,6 +14,8 @@ pub enum Failure {
     Input(String),
     /// A file can't be read or written; the message begins with its name.
     Io(String),
+    /// Events were refused, in a strict run: how many.
+    Refused(u64),
     /// Nobody reads the output any more.
     Pipe,
 }
@@ -25,12 +29,13 @@ impl Failure {
         }
     }
 
-    /// 2 for a wrong command line or input, 1 for files, 0 for a pipe that was
-    /// closed: `levels run | head` is no failure.
+    /// 2 for a wrong command line or input, 1 for files, 3 for refused events, 0 for
+    /// a pipe that was closed: `levels run | head` is no failure.
     pub fn exit_code(&self) -> u8 {
         match self {
             Failure::Usage(_) | Failure::Input(_) => 2,
             Failure::Io(_) => 1,
+            Failure::Refused(_) => 3,
             Failure::Pipe => 0,
         }
     }
@@ -42,6 +47,7 @@ impl fmt::Display for Failure {
             Failure::Usage(message) => write!(f, "levels: {message}"),
             Failure::Input(message) => f.write_str(message),
             Failure::Io(message) => write!(f, "levels: {message}"),
+            Failure::Refused(events) => write!(f, "levels: {} refused", counted(*events, "event")),
             Failure::Pipe => Ok(()),
         }
     }

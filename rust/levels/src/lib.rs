@@ -2,25 +2,20 @@
 //!
 //! In the order of the way that an event takes:
 //!
-//! * [`text`]: a line of text and the event that it writes, with line and column
-//!   for what is wrong;
-//! * [`input`]: events one by one from a file or standard input, text or bytes;
-//! * [`story`]: each event stepped through the archive, with what the archive's
-//!   read-only view says about it: who waits for whom, what was sent, what arrived;
+//! * [`input`]: events one by one from a file or standard input, text or bytes, with
+//!   line and column for what is wrong;
+//! * [`story`]: each event stepped through the archive, with what the tables before
+//!   and after it say about it: who waits for whom, what was sent, what arrived;
 //! * [`words`]: a happening as a sentence;
 //! * [`draw`]: all happenings as a space-time picture;
-//! * [`command`]: the command line, its help, output, progress and exit codes.
+//! * [`command`]: the command line, its help, output and exit codes.
 //!
 //! Nothing that the archive decides is decided here: every answer is the proved
 //! core's, and a wait's cause is read from the table that it left unchanged.
-
-#![forbid(unsafe_code)]
-#![warn(missing_docs)]
 
 pub mod command;
 pub mod draw;
 pub mod failure;
 pub mod input;
 pub mod story;
-pub mod text;
 pub mod words;

@@ -1,14 +1,13 @@
 //! Events stepped through the archive, each with what its view says about it.
 
-mod before;
+mod detail;
 mod why;
 
 use std::fmt;
 
-use level_archive::{Answer, Archive, Event, Message, Refusal, View};
+use level_archive::{Answer, Archive, Message, Refusal, View};
 
 use crate::input::Piece;
-use before::Before;
 
 /// An archive and how many events it has been given.
 pub struct Story {
@@ -96,39 +95,30 @@ pub struct Unheard {
 }
 
 impl Story {
-    /// Nothing has happened yet; 11 for a number not 1 to 4.
-    pub fn new(sites: u32, partitions: u32) -> Result<Story, Refusal> {
-        Ok(Story { archive: Archive::new(sites, partitions)?, events: 0 })
+    /// Nothing has happened yet.
+    pub fn of(archive: Archive) -> Story {
+        Story { archive, events: 0 }
     }
 
     /// One event more.
     pub fn step(&mut self, piece: Piece) -> Happening {
         self.events += 1;
-        let mut happening = Happening {
-            number: self.events,
-            piece,
-            answer: Answer::Done,
-            node: None,
-            detail: Detail::None,
-        };
-        let event = piece.event().ok();
-        let before = event.zip(self.archive.view()).map(|(event, view)| Before::of(&view, &event));
-        happening.answer = self.archive.step_bytes(piece.bytes());
-        if let (Some(before), Some(event), Some(view)) = (before, event, self.archive.view()) {
-            happening.node =
-                before.node.filter(|_| happening.answer != Answer::Refused(Refusal::OutOfRange));
-            happening.detail = before.detail(&view, &event, happening.answer);
+        let before = self.archive.clone();
+        let answer = self.archive.step_bytes(piece.bytes());
+        let (mut node, mut detail) = (None, None);
+        if let (Ok(event), Ok(before), Ok(after)) =
+            (piece.event(), before.view(), self.archive.view())
+        {
+            let in_range = answer != Answer::Refused(Refusal::OutOfRange);
+            node = detail::node_of(&before, event).filter(|_| in_range);
+            detail = detail::detail((&before, &after), event, answer, node);
         }
-        happening
-    }
-
-    /// How many events there were.
-    pub fn events(&self) -> u64 {
-        self.events
+        let detail = detail.unwrap_or(Detail::None);
+        Happening { number: self.events, piece, answer, node, detail }
     }
 
     /// What the archive's table says now.
-    pub fn view(&self) -> Option<View<'_>> {
+    pub fn view(&self) -> Result<View<'_>, Refusal> {
         self.archive.view()
     }
 }
@@ -136,16 +126,7 @@ impl Story {
 impl Happening {
     /// The session that the event names.
     pub fn session(&self) -> Option<u8> {
-        match self.piece.event().ok()? {
-            Event::Open { session, .. }
-            | Event::Close { session }
-            | Event::Get { session, .. }
-            | Event::Put { session, .. }
-            | Event::Begin { session, .. }
-            | Event::Read { session, .. }
-            | Event::End { session } => Some(session),
-            Event::Clock { .. } | Event::Beat { .. } | Event::Deliver { .. } => None,
-        }
+        self.piece.event().ok()?.session()
     }
 }
 

@@ -47,6 +47,16 @@ impl Answer {
         }
     }
 
+    /// As 16 bytes: 0 number, 1 source, 2 quality, 3 zero, 4–7 level, 8–15 stamp.
+    #[inline]
+    pub fn to_bytes(self) -> [u8; 16] {
+        let mut bytes = [0; 16];
+        bytes[..3].copy_from_slice(&[self.number, self.source, self.quality]);
+        bytes[4..8].copy_from_slice(&self.level.to_le_bytes());
+        bytes[8..].copy_from_slice(&self.stamp.to_le_bytes());
+        bytes
+    }
+
     /// Whether a read was served: a value or nothing recorded.
     #[inline]
     pub const fn is_served(&self) -> bool {

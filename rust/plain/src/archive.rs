@@ -2,7 +2,7 @@
 
 use crate::answer::Answer;
 use crate::channel::Channel;
-use crate::event::{code, Event};
+use crate::event::{Event, code};
 use crate::limits::*;
 use crate::node::Node;
 use crate::session::Session;

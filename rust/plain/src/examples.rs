@@ -1,7 +1,7 @@
 //! The marked examples P1 to P11 of document 01.
 
 use crate::make;
-use crate::session::{raise_by, Page, Session};
+use crate::session::{Page, Session, raise_by};
 use crate::vector::{Vector, ZERO};
 use crate::{Answer, Archive, Record};
 

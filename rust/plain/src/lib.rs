@@ -10,9 +10,6 @@
 //! * [`table`] is the core's table of bytes: whether it is well formed, and
 //!   the archive that it says.
 
-#![forbid(unsafe_code)]
-#![warn(missing_docs)]
-
 mod answer;
 mod archive;
 mod channel;
@@ -41,7 +38,7 @@ mod mutants;
 pub use answer::Answer;
 pub use archive::Archive;
 pub use channel::Channel;
-pub use event::{code, Event};
+pub use event::{Event, code};
 pub use node::Node;
 pub use record::{Message, Record};
 pub use session::{Page, Session};

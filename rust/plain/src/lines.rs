@@ -1,4 +1,5 @@
-//! The bench's lines, written in large pieces.
+//! The bench's lines, written in large pieces. All that this does by hand is for speed
+//! alone: a line is `format!("{place} {code} {number} {source} {quality} {level} {stamp}")`.
 
 use std::io::{self, Write};
 
@@ -79,12 +80,11 @@ impl<W: Write> Lines<W> {
     /// Adds a space and a number that mostly has one digit.
     #[inline]
     fn small(&mut self, number: u8) {
-        match number < 10 {
-            true => self.text(&[b' ', b'0' + number]),
-            false => {
-                self.text(b" ");
-                self.number(number.into());
-            }
+        if number < 10 {
+            self.text(&[b' ', b'0' + number]);
+        } else {
+            self.text(b" ");
+            self.number(number.into());
         }
     }
 

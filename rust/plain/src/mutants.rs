@@ -2,10 +2,10 @@
 //! turning the state around a right step, so the steps themselves stay whole.
 
 use crate::causal::{Observer, Violation};
-use crate::event::{code, Event};
+use crate::event::{Event, code};
 use crate::random::Random;
 use crate::stream::{Stream, Style};
-use crate::vector::{covers_besides, greatest, raise, raise_entry, Vector, ZERO};
+use crate::vector::{Vector, ZERO, covers_besides, greatest, raise, raise_entry};
 use crate::{Answer, Archive};
 
 const ALL: Vector = [u64::MAX; 4];

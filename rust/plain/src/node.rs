@@ -2,7 +2,7 @@
 
 use crate::limits::{KEYS, RECORDS};
 use crate::record::Record;
-use crate::vector::{covers, Vector, ZERO};
+use crate::vector::{Vector, ZERO, covers};
 
 /// A clock, a vector and records in the order in which they were stored.
 #[derive(Clone, Copy, PartialEq, Eq, Debug)]
@@ -12,7 +12,8 @@ pub struct Node {
     /// The stamp up to which the node has heard each site.
     pub vector: Vector,
     length: usize,
-    /// For each key, the places of its records: bit n for place n.
+    /// For speed alone: for each key the places of its records, bit n for place n, so
+    /// that a search need not go through the records of other keys.
     places: [u32; KEYS],
     records: [Record; RECORDS],
 }
@@ -60,7 +61,7 @@ impl Node {
         newest_of(self.of_key(key).filter(|record| covers(page, &record.vector)))
     }
 
-    /// The records of a key, first stored first.
+    /// The records of a key, first stored first: those of `records` with this key.
     #[inline]
     fn of_key(&self, key: u8) -> impl Iterator<Item = &Record> {
         let mut places = self.places[key as usize];
@@ -75,9 +76,5 @@ impl Node {
 /// The newest of some records; of two alike, the one that comes first.
 #[inline]
 fn newest_of<'a>(records: impl Iterator<Item = &'a Record>) -> Option<&'a Record> {
-    let newer = |best: &'a Record, record| match Record::is_newer_than(record, best) {
-        true => record,
-        false => best,
-    };
-    records.reduce(newer)
+    records.reduce(|best, record| if record.is_newer_than(best) { record } else { best })
 }

@@ -1,7 +1,7 @@
 //! Sessions and their pages.
 
 use crate::record::Record;
-use crate::vector::{raise, raise_entry, Vector, ZERO};
+use crate::vector::{Vector, ZERO, raise, raise_entry};
 
 /// A reader and writer at one site.
 #[derive(Clone, Copy, PartialEq, Eq, Debug)]

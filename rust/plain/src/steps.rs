@@ -5,7 +5,7 @@ use crate::answer::Answer;
 use crate::archive::Archive;
 use crate::event::Event;
 use crate::record::{Message, Record};
-use crate::session::{raise_by, Page, Session};
+use crate::session::{Page, Session, raise_by};
 use crate::vector::{covers, covers_besides, greatest, raise, raise_entry};
 
 /// Gives the first number whose case applies.

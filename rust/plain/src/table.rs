@@ -11,5 +11,5 @@ mod read;
 
 pub use differ::difference;
 pub use formed::well_formed;
-pub use layout::{partition_part, session_part, site_part, TABLE_BYTES};
+pub use layout::{TABLE_BYTES, partition_part, session_part, site_part};
 pub use read::read;

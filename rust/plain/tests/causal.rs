@@ -1,8 +1,8 @@
 //! The observer on logs made by hand: lawful ones and violating ones.
 
+use plain::Answer;
 use plain::causal::{Breach, Observer, Violation};
 use plain::make::{self, Bytes};
-use plain::Answer;
 
 const DONE: Answer = Answer::DONE;
 const NOTHING: Answer = Answer::NOTHING;

@@ -8,7 +8,7 @@ use std::env;
 use plain::causal::Observer;
 use plain::random::Random;
 use plain::stream::{Stream, Style};
-use plain::{code, Answer, Archive};
+use plain::{Answer, Archive, code};
 
 /// A number from the environment, printed with its name.
 fn setting(name: &str, usual: u64) -> u64 {

@@ -44,7 +44,7 @@ impl Faulty {
             Fault::Shown(at) if told[0] == 1 => told[at] ^= 1,
             Fault::WaitAsNothing if told[0] == 3 => told[0] = 2,
             Fault::Table(at) => {
-                let mut bytes = self.core.bytes().to_vec();
+                let mut bytes = self.core.as_bytes().to_vec();
                 bytes[at] ^= 1;
                 self.core = Archive::over(bytes.into());
                 self.fault = Fault::None;
@@ -92,7 +92,7 @@ fn busy_channel(events: &[Vec<u8>]) -> usize {
     let mut core = Archive::new(3, 2).expect("3 and 2");
     events.iter().for_each(|event| assert!(core.step_bytes(event).number() < 24));
     let channels = (0..6).map(|number| partition_part(number / 2, number % 2).1.start);
-    let busy = channels.into_iter().find(|channel| core.bytes()[channel + 1] > 0);
+    let busy = channels.into_iter().find(|channel| core.as_bytes()[channel + 1] > 0);
     busy.expect("a message waits somewhere")
 }
 

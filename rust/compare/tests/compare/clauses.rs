@@ -110,7 +110,7 @@ fn nodes() {
     let (node, _) = places(0, 0);
     edge("as many records as there are", node + 40, 0, 33);
     // A record that would be lawful at a site that exists.
-    let record = full().bytes()[node + 64..node + 112].to_vec();
+    let record = full().as_bytes()[node + 64..node + 112].to_vec();
     for (site, partition) in [(3, 0), (0, 3), (3, 3)] {
         let absent = places(site, partition).0;
         expect(true, "an absent node's slot", &[(absent + 64, &record)]);
@@ -193,6 +193,6 @@ fn setup_makes_any_bytes_empty() {
     for (sites, partitions) in [(0, 1), (1, 0), (5, 1), (1, 5), (260, 1), (u32::MAX, 2)] {
         let bytes = vec![255; 57_344];
         let refused = Archive::setup(bytes.clone(), sites, partitions).expect_err("not 1 to 4");
-        assert_eq!((refused.0.number(), refused.1), (11, bytes));
+        assert_eq!((refused.refusal().number(), refused.into_bytes()), (11, bytes));
     }
 }

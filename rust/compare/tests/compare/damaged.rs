@@ -5,7 +5,7 @@
 use compare::damage::{changes, damage};
 use compare::pair::{Difference, Pair};
 use compare::settings::Settings;
-use compare::subject::{Told, told};
+use compare::subject::Told;
 use level_archive::{ANSWER_BYTES, Archive, TABLE_BYTES};
 use plain::random::Random;
 use plain::stream::{Stream, Style};
@@ -27,7 +27,7 @@ struct Fates {
 fn left_alone(table: &[u8], event: &[u8]) -> Told {
     let mut core = Archive::over(table.to_vec());
     let answer = core.step_bytes(event).to_bytes();
-    assert!(core.bytes() == table, "the table was changed");
+    assert!(core.as_bytes() == table, "the table was changed");
     answer
 }
 
@@ -35,14 +35,14 @@ fn left_alone(table: &[u8], event: &[u8]) -> Told {
 fn is_refused(table: &[u8], events: &[Vec<u8>], number: u8) {
     for event in events {
         let number = if event.len() == 32 { number } else { 23 };
-        assert_eq!(left_alone(table, event), told(&Answer::only(number)));
+        assert_eq!(left_alone(table, event), Answer::only(number).to_bytes());
         let mut core = Archive::over(table.to_vec());
         let mut answer = [0xa5; ANSWER_BYTES];
         if event.len() == 32 {
-            assert_eq!(core.run_bytes(event, &mut answer), 1);
-            assert_eq!(answer, told(&Answer::only(number)));
+            assert_eq!(core.run_into(event, &mut answer), 1);
+            assert_eq!(answer, Answer::only(number).to_bytes());
         }
-        assert!(core.bytes() == table, "the table was changed");
+        assert!(core.as_bytes() == table, "the table was changed");
     }
 }
 
@@ -60,7 +60,7 @@ fn try_one(random: &mut Random, table: &[u8], events: &[Vec<u8>], fates: &mut Fa
     let formed = table::well_formed(&damaged);
     let number = if formed { 10 } else { 24 };
     let core = left_alone(&damaged, &[0; 32]);
-    assert_eq!(core, told(&Answer::only(number)), "{:?}", changes(table, &damaged));
+    assert_eq!(core, Answer::only(number).to_bytes(), "{:?}", changes(table, &damaged));
     if !formed {
         fates.refused += 1;
         return is_refused(&damaged, &events[..1], 24);
@@ -83,14 +83,14 @@ fn try_list(seed: u64, fates: &mut Fates) {
     while place < style.length {
         let quiet = random.between(1, 300);
         for _ in 0..quiet {
-            core.step_bytes(stream.next_event());
+            let _ = core.step_bytes(stream.next_event());
         }
         let events: Vec<_> = (0..EVENTS).map(|_| stream.next_event().to_vec()).collect();
         for _ in 0..AT_A_MOMENT {
-            try_one(&mut random, core.bytes(), &events, fates);
+            try_one(&mut random, core.as_bytes(), &events, fates);
         }
         for event in &events {
-            core.step_bytes(event);
+            let _ = core.step_bytes(event);
         }
         place += quiet + EVENTS;
     }
@@ -120,8 +120,8 @@ fn a_table_of_another_length_gives_23() {
         bytes.resize(length, 0);
         is_refused(&bytes, &events, 23);
         assert!(!table::well_formed(&bytes));
-        let (refusal, left) = Archive::setup(bytes.clone(), 2, 2).expect_err("a wrong length");
-        assert_eq!((refusal.number(), left), (23, bytes));
+        let refused = Archive::setup(bytes.clone(), 2, 2).expect_err("a wrong length");
+        assert_eq!((refused.refusal().number(), refused.into_bytes()), (23, bytes));
     }
 }
 

@@ -3,28 +3,10 @@
 
 use std::ptr::{null, null_mut};
 
+use level_archive::sys::raw::{level_archive_run, level_archive_setup, level_archive_step};
 use level_archive::{
-    ANSWER_BYTES, Answer, Archive, EVENT_BYTES, Event, Quality, TABLE_BYTES, Values, sys,
+    ANSWER_BYTES, Answer, Archive, EVENT_BYTES, Event, Quality, Refusal, TABLE_BYTES, Values, sys,
 };
-
-// As a C program declares them: `sys` takes slices, and a slice is never null.
-unsafe extern "C" {
-    fn level_archive_setup(table: *mut u8, length: usize, sites: u32, partitions: u32) -> Values;
-    fn level_archive_step(
-        table: *mut u8,
-        length: usize,
-        event: *const u8,
-        event_length: usize,
-    ) -> Values;
-    fn level_archive_run(
-        table: *mut u8,
-        length: usize,
-        events: *const u8,
-        events_length: usize,
-        answers: *mut u8,
-        answers_length: usize,
-    ) -> usize;
-}
 
 /// Lengths that are not a table's.
 const LENGTHS: [usize; 10] = [0, 1, 31, 32, 33, 57_343, 57_345, 57_376, 65_536, 114_688];
@@ -50,7 +32,7 @@ pub fn used_table() -> Vec<u8> {
         Event::begin(15, 0, &[63, 2, 1]).expect("three keys"),
         Event::read(15, 63),
     ];
-    let numbers: Vec<u8> = archive.run(&events).iter().map(Answer::number).collect();
+    let numbers: Vec<u8> = archive.run(&events).into_iter().map(Answer::number).collect();
     assert_eq!(numbers, [0, 0, 0, 0, 3, 0, 0, 0, 0, 0, 0, 1]);
     archive.into_bytes()
 }
@@ -62,7 +44,7 @@ pub fn refused(table: &mut [u8], event: &[u8], number: u8) {
     if event.len() == EVENT_BYTES {
         let mut answer = [0xa5; ANSWER_BYTES];
         assert_eq!(sys::run(table, event, &mut answer), 1);
-        assert_eq!(Answer::from_bytes(&answer).map(|answer| answer.values()), Some(only(number)));
+        assert_eq!(Answer::try_from(&answer[..]).map(Answer::values), Ok(only(number)));
     }
     assert!(table == before, "a refusal changed the table: {event:?}");
 }
@@ -103,7 +85,7 @@ fn events_of_other_lengths() {
 #[test]
 fn runs_of_other_lengths() {
     let events: Vec<u8> = [Event::open(1, 0), Event::open(2, 1), Event::close(1)]
-        .iter()
+        .into_iter()
         .flat_map(Event::to_bytes)
         .collect();
     for length in 0..=events.len() {
@@ -117,7 +99,7 @@ fn runs_of_other_lengths() {
                 events[..length].chunks(EVENT_BYTES).zip(expected.chunks_exact_mut(ANSWER_BYTES))
             {
                 let values = sys::step(&mut one_by_one, event);
-                answer.copy_from_slice(&Answer::from_values(values).expect("an answer").to_bytes());
+                answer.copy_from_slice(&Answer::try_from(values).expect("an answer").to_bytes());
             }
             assert!(answers == expected && table == one_by_one, "{length} bytes, room {room}");
         }
@@ -137,7 +119,7 @@ fn runs_on_other_tables() {
         assert_eq!(sys::run(&mut table, &events[..70], &mut answers), 3);
         let given = answers
             .chunks(ANSWER_BYTES)
-            .map(|bytes| Answer::from_bytes(bytes).map(|answer| answer.values()));
+            .map(|bytes| Answer::try_from(bytes).map(Answer::values).ok());
         let expected = [Some(only(number)), Some(only(number)), Some(only(23)), None];
         assert_eq!(given.collect::<Vec<_>>(), expected);
         assert!(table == before && answers[48..] == [0xa5; 16]);
@@ -170,6 +152,7 @@ fn tables_with_other_site_and_partition_numbers() {
 }
 
 #[test]
+#[allow(unsafe_code)] // `sys` takes slices, and a slice is never null
 fn null_pointers_of_length_0() {
     let mut table = used_table();
     let before = table.clone();
@@ -190,6 +173,6 @@ fn null_pointers_of_length_0() {
         assert!(answers == [0xa5; 32]);
         assert_eq!(level_archive_run(null_mut(), 0, event.as_ptr(), 32, room, 32), 1);
     }
-    assert_eq!(answers[..16], Answer::Refused(level_archive::Refusal::WrongLength).to_bytes());
+    assert_eq!(answers[..16], Answer::Refused(Refusal::WrongLength).to_bytes());
     assert!(answers[16..] == [0xa5; 16] && table == before);
 }

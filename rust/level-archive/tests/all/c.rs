@@ -4,6 +4,7 @@
 use std::path::{Path, PathBuf};
 use std::process::Command;
 
+use level_archive::limits::*;
 use level_archive::{Answer, Event, Quality, Refusal};
 
 const LIBRARY: &str = env!("LEVEL_ARCHIVE_LIBRARY");
@@ -64,10 +65,25 @@ fn the_example() {
     assert_eq!(printed(&C99, &source, "two_sites"), TWO_SITES);
 }
 
+/// This crate's version, as text and as a number.
+fn version() -> String {
+    let version = env!("CARGO_PKG_VERSION");
+    let part = |part: &str| part.parse::<u32>().expect("a number");
+    let number = version.split('.').fold(0, |number, next| 100 * number + part(next));
+    format!("{version} {number}\n")
+}
+
+/// Document 01's numbers, in the header's order.
+fn limits() -> String {
+    let (sessions, keys) = (SESSIONS - 1, KEYS - 1);
+    let counts = format!("{SITES} {PARTITIONS} {sessions} {keys} {PAGE_KEYS}");
+    format!("{counts} {LAST_TIME} {LOWEST_LEVEL} {HIGHEST_LEVEL}\n")
+}
+
 /// A line for each number 0 to 255.
 fn texts() -> String {
-    let text = |number: u8| match (number, Refusal::from_number(number)) {
-        (_, Some(refusal)) => refusal.to_string(),
+    let text = |number: u8| match (number, Refusal::try_from(number)) {
+        (_, Ok(refusal)) => refusal.to_string(),
         (0, _) => Answer::Done.to_string(),
         (1, _) => String::from("a reading"),
         (2, _) => Answer::Nothing.to_string(),
@@ -100,7 +116,7 @@ fn events() -> String {
 fn the_header_says_what_rust_says() {
     let sizes = "16 4 8 57344 32 16\n";
     let answer = "1 3 2 -50000 281474976710655\n";
-    let expected = texts() + &events() + sizes + answer;
+    let expected = version() + &texts() + &events() + sizes + &limits() + answer;
     assert_eq!(printed(&C99, &test_source("header.c"), "header"), expected);
     if has_cpp() {
         assert_eq!(printed(&CPP, &test_source("header.c"), "header-cpp"), expected);

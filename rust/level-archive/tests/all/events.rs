@@ -1,6 +1,6 @@
 //! Events: their bytes, there and back, and their words.
 
-use level_archive::{Archive, Event, EventError, PageKeys, Quality, TooManyKeys};
+use level_archive::{Archive, Event, EventError, PageKeys, ParseEventError, Quality, TooManyKeys};
 use plain::make;
 
 /// Every event once, with the bytes that the other implementation makes of it, its
@@ -38,26 +38,29 @@ fn each() -> [(Event, [u8; 32], &'static str); 12] {
 fn bytes_are_document_01s() {
     for (event, bytes, words) in each() {
         assert_eq!(event.to_bytes(), bytes, "{event}");
-        assert_eq!(Event::from_bytes(&bytes), Ok(event));
+        assert_eq!(Event::try_from(&bytes[..]), Ok(event));
         assert_eq!(event.to_string(), words);
+        assert_eq!(words.parse(), Ok(event));
+        assert_eq!(format!("\t{} ", words.to_lowercase().replace('-', "−")).parse(), Ok(event));
         assert_eq!(event.code(), bytes[0]);
         assert!(words.starts_with(event.name()));
+        assert_eq!(event.session(), words.contains("session").then_some(bytes[3]));
     }
 }
 
 #[test]
 fn other_bytes_are_named() {
     let page = make::begin(1, 2, &[3]);
-    assert_eq!(Event::from_bytes(&page[..31]), Err(EventError::WrongLength));
-    assert_eq!(Event::from_bytes(&[0; 33]), Err(EventError::WrongLength));
+    assert_eq!(Event::try_from(&page[..31]), Err(EventError::WrongLength));
+    assert_eq!(Event::try_from(&[0; 33][..]), Err(EventError::WrongLength));
     for code in (0..=0).chain(11..=255) {
         let bytes = std::array::from_fn::<u8, 32, _>(|place| if place == 0 { code } else { 255 });
-        assert_eq!(Event::from_bytes(&bytes), Err(EventError::UnknownCode(code)));
+        assert_eq!(Event::try_from(&bytes[..]), Err(EventError::UnknownCode(code)));
     }
     for count in 9..=255 {
         let bytes =
             std::array::from_fn::<u8, 32, _>(|place| if place == 7 { count } else { page[place] });
-        assert_eq!(Event::from_bytes(&bytes), Err(EventError::CountTooLarge(count)));
+        assert_eq!(Event::try_from(&bytes[..]), Err(EventError::CountTooLarge(count)));
     }
 }
 
@@ -72,8 +75,11 @@ fn exactly_the_bytes_of_events_are_taken() {
                 let mut other = bytes;
                 other[place] = byte;
                 let number = archive.step_bytes(&other).number();
-                match Event::from_bytes(&other) {
-                    Ok(event) => assert!(event.to_bytes() == other && number != 10),
+                match Event::try_from(&other[..]) {
+                    Ok(event) => {
+                        assert!(event.to_bytes() == other && number != 10);
+                        assert_eq!(event.to_string().parse(), Ok(event));
+                    }
                     Err(EventError::UnknownCode(code)) => assert!(code == other[0] && number == 10),
                     Err(EventError::WrongLength) => panic!("32 bytes"),
                     Err(_) => assert_eq!(number, 11),
@@ -86,7 +92,7 @@ fn exactly_the_bytes_of_events_are_taken() {
 #[test]
 fn pages_have_at_most_8_keys() {
     assert_eq!(Event::begin(0, 0, &[1; 9]), Err(TooManyKeys));
-    assert_eq!(PageKeys::new(&[1; 9]), None);
+    assert_eq!(PageKeys::try_from(&[1; 9][..]), Err(TooManyKeys));
     for count in 0..=8 {
         let keys: Vec<u8> = (1..=count).collect();
         let page = PageKeys::new(&keys).expect("at most 8");
@@ -100,4 +106,29 @@ fn errors_have_words() {
     assert_eq!(EventError::WrongLength.to_string(), "an event is 32 bytes");
     assert_eq!(EventError::UnknownCode(11).to_string(), "no event has the code 11");
     assert_eq!(EventError::CountTooLarge(9).to_string(), "a page has at most 8 keys, not 9");
+}
+
+#[test]
+fn other_texts_are_named() {
+    let long = "x".repeat(1000);
+    let cut = format!("{}... is not an event", "x".repeat(40));
+    let bad = [
+        (" ", 1, "expected an event, found the end of the line"),
+        ("\u{1b}[2J", 1, "\\u{1b}[2J is not an event"),
+        (&long, 1, &cut),
+        ("  OPEN session 0 site 0 at", 25, "expected the end of the line, found at"),
+        ("CLOCK 0,1 at", 13, "time has no number"),
+        ("CLOCK −,1 at 5", 7, "site − is not a number"),
+        ("CLOCK −1,x at 5", 7, "site −1 does not fit in one byte, 0 to 255"),
+        ("PUT session 0 key 4 level 99999999999999999999999999999999999999999", 27, "level 9"),
+    ];
+    for (text, column, message) in bad {
+        let error: ParseEventError = text.parse::<Event>().expect_err(text);
+        assert_eq!(error.column, column, "{error}");
+        assert!(error.message.starts_with(message), "{error}");
+    }
+    for number in ["", "-", "+1", "1x", "0x10", "1.5", "--1", "１"] {
+        assert!(format!("END session {number}").parse::<Event>().is_err(), "{number}");
+    }
+    assert_eq!("end session 007".parse(), Ok(Event::end(7)));
 }

@@ -11,13 +11,17 @@ fn setup_takes_1_to_4_and_gives_refused_bytes_back() {
             assert_eq!(Archive::new(sites, partitions).err(), refused);
             let bytes = vec![7; TABLE_BYTES];
             match Archive::setup(bytes.clone(), sites, partitions) {
-                Ok(archive) => assert!(lawful && archive.view().is_some()),
-                Err((refusal, back)) => assert!(Some(refusal) == refused && back == bytes),
+                Ok(archive) => assert!(lawful && archive.view().is_ok()),
+                Err(error) => {
+                    assert_eq!(Some(error.refusal()), refused);
+                    assert!(error.into_bytes() == bytes);
+                }
             }
         }
     }
-    let short = Archive::setup([7; 100], 2, 2);
-    assert_eq!(short.err(), Some((Refusal::WrongLength, [7; 100])));
+    let short = Archive::setup([7; 100], 2, 2).expect_err("too short");
+    assert_eq!(short.to_string(), Refusal::WrongLength.to_string());
+    assert_eq!((short.refusal(), short.into_bytes()), (Refusal::WrongLength, [7; 100]));
 }
 
 #[test]
@@ -31,7 +35,7 @@ fn a_table_made_earlier_goes_on() {
     let shown = later.step(&Event::get(3, 5));
     assert_eq!(shown, earlier.step(&Event::get(3, 5)));
     assert_eq!(shown.to_string(), "9 mm, estimated, site 1 at 8");
-    assert!(later.bytes() == earlier.bytes());
+    assert!(later.as_bytes() == earlier.as_bytes());
 }
 
 #[test]
@@ -43,7 +47,7 @@ fn bytes_that_are_no_table_are_refused_at_each_call() {
         assert_eq!(archive.step(&Event::close(0)), Answer::Refused(refusal));
         let answers = archive.run(&[Event::close(0), Event::open(0, 0)]);
         assert_eq!(answers, [Answer::Refused(refusal); 2]);
-        assert!(archive.view().is_none());
+        assert_eq!(archive.view().err(), Some(refusal));
         assert!(archive.into_bytes() == bytes);
     }
 }

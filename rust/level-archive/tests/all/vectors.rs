@@ -40,12 +40,12 @@ fn four_by_four() -> Archive {
 fn all_at_once() {
     for (path, events, expected) in vectors() {
         let mut archive = four_by_four();
-        let answers = archive.answers_to(&events);
+        let answers = archive.run_bytes(&events);
         assert!(lines(&events, &answers) == expected, "{} differs", path.display());
         let mut answer_bytes = vec![0; events.len().div_ceil(EVENT_BYTES) * ANSWER_BYTES];
         let mut again = four_by_four();
-        assert_eq!(again.run_bytes(&events, &mut answer_bytes), answers.len());
-        let written: Vec<u8> = answers.iter().flat_map(Answer::to_bytes).collect();
+        assert_eq!(again.run_into(&events, &mut answer_bytes), answers.len());
+        let written: Vec<u8> = answers.iter().flat_map(|answer| answer.to_bytes()).collect();
         assert!(answer_bytes == written && again == archive, "{} differs in bytes", path.display());
     }
 }
@@ -58,10 +58,10 @@ fn with_little_room_for_answers() {
         let mut answers = Vec::new();
         let mut left = &events[..];
         while !left.is_empty() {
-            let answered = archive.run_bytes(left, &mut room);
+            let answered = archive.run_into(left, &mut room);
             assert_eq!(answered, left.len().div_ceil(EVENT_BYTES).min(7));
             let bytes = room.chunks(ANSWER_BYTES).take(answered);
-            answers.extend(bytes.map(|bytes| Answer::from_bytes(bytes).expect("an answer")));
+            answers.extend(bytes.map(|bytes| Answer::try_from(bytes).expect("an answer")));
             left = left.get(answered * EVENT_BYTES..).unwrap_or_default();
         }
         assert!(lines(&events, &answers) == expected, "{} differs", path.display());
@@ -77,7 +77,7 @@ fn one_by_one_over_lent_bytes() {
         let answers: Vec<Answer> = pieces.map(|piece| archive.step_bytes(piece)).collect();
         assert!(lines(&events, &answers) == expected, "{} differs", path.display());
         let mut whole = four_by_four();
-        whole.answers_to(&events);
-        assert!(whole.bytes() == archive.bytes(), "{}: the tables differ", path.display());
+        assert_eq!(whole.run_bytes(&events), answers);
+        assert!(whole.as_bytes() == archive.as_bytes(), "{}: the tables differ", path.display());
     }
 }

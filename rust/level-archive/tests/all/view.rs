@@ -1,12 +1,13 @@
 //! What a view says of a table is what the other implementation holds, on generated
 //! events.
 
-use level_archive::{Archive, Message, NodeView, Record, SessionView, View};
+use level_archive::{Archive, ChannelView, Message, NodeView, Quality, Record, SessionView, View};
 use plain::random::Random;
 use plain::stream::{Stream, Style};
 
 fn record(record: &plain::Record) -> Record {
     let plain::Record { key, source, quality, level, stamp, vector } = *record;
+    let quality = Quality::try_from(quality).expect("0 to 2");
     Record { key, source, quality, level, stamp, carried: vector }
 }
 
@@ -22,11 +23,17 @@ fn unread(keys: &[(u8, bool)]) -> u64 {
     keys.iter().filter(|key| !key.1).fold(0, |bits, key| bits | 1 << key.0)
 }
 
+fn open(session: &SessionView) -> Option<SessionView> {
+    session.open.then(|| session.clone())
+}
+
 fn sessions_agree(view: &View, other: &plain::Archive) {
     for s in 0..16 {
-        let SessionView { open, site, vector, page } = view.session(s).expect("session {s}");
+        let session = view.session(s).expect("0 to 15");
         let expected = other.session(s.into());
-        assert_eq!(open, expected.open);
+        assert_eq!((session.number, session.open), (s, expected.open));
+        assert_eq!(view.sessions().find(|open| open.number == s), open(&session));
+        let SessionView { open, site, vector, page, .. } = session;
         if open {
             assert_eq!((usize::from(site), vector), (expected.site, expected.vector));
             let page = page.map(|page| (page.vector, unread(&page.keys), page.gathered));
@@ -44,19 +51,24 @@ fn nodes_agree(view: &View, other: &plain::Archive) {
         let expected = there.then(|| {
             let node = other.node(site.into(), partition.into());
             let records = node.records().iter().map(record).collect();
-            NodeView { clock: node.clock, heard: node.vector, records }
+            NodeView { site, partition, clock: node.clock, heard: node.vector, records }
         });
         assert_eq!(view.node(site, partition), expected);
+        let listed = view.nodes().find(|node| (node.site, node.partition) == (site, partition));
+        assert_eq!(listed, expected);
         for from in 0..5 {
             let there = there && from < view.sites() && from != site;
             let expected = there.then(|| {
                 let channel = other.channel(from.into(), site.into(), partition.into());
-                (0..channel.len())
-                    .filter_map(|place| channel.at(place))
-                    .map(|m| message(from, m))
-                    .collect()
+                let messages = (0..channel.len()).filter_map(|place| channel.at(place));
+                let messages = messages.map(|m| message(from, m)).collect();
+                ChannelView { from, to: site, partition, messages }
             });
             assert_eq!(view.channel(from, site, partition), expected);
+            let named = |channel: &ChannelView| {
+                (channel.from, channel.to, channel.partition) == (from, site, partition)
+            };
+            assert_eq!(view.channels().find(named), expected);
         }
     }
 }

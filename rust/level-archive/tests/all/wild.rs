@@ -1,6 +1,6 @@
 //! Wild bytes: nothing panics, and what is refused changes nothing.
 
-use level_archive::{Answer, Archive, Event, TABLE_BYTES, View};
+use level_archive::{Answer, Archive, Event, Refusal, TABLE_BYTES, View};
 use plain::random::Random;
 
 fn bytes(random: &mut Random, length: usize) -> Vec<u8> {
@@ -18,7 +18,7 @@ fn look(view: &View) -> usize {
             seen += view.node(a, b).map_or(0, |node| node.records.len());
             seen += numbers()
                 .filter_map(|c| view.channel(a, b, c))
-                .map(|channel| channel.len())
+                .map(|channel| channel.messages.len())
                 .sum::<usize>();
         }
     }
@@ -34,10 +34,10 @@ fn views_of_wild_tables() {
         table[0] = (turn % 6) as u8;
         table[1] = (turn / 6 % 6) as u8;
         let lawful = (1..=4).contains(&table[0]) && (1..=4).contains(&table[1]);
-        let view = View::of(&table);
-        assert_eq!(view.is_some(), lawful);
+        let view = View::try_from(&table[..]);
+        assert_eq!(view.as_ref().err(), (!lawful).then_some(&Refusal::IllFormed));
         seen += view.map_or(0, |view| look(&view));
-        assert!(View::of(&table[1..]).is_none());
+        assert_eq!(View::new(&table[1..]).err(), Some(Refusal::WrongLength));
     }
     assert!(seen > 10_000, "only {seen} things seen");
 }
@@ -53,7 +53,7 @@ fn wild_tables_are_refused_unchanged() {
         let wild = bytes(&mut random, 97);
         assert_eq!(archive.step_bytes(&wild[..32]).number(), refused);
         assert_eq!(archive.step_bytes(&wild).number(), 23);
-        let numbers: Vec<u8> = archive.answers_to(&wild).iter().map(Answer::number).collect();
+        let numbers: Vec<u8> = archive.run_bytes(&wild).into_iter().map(Answer::number).collect();
         assert_eq!(numbers, [refused, refused, refused, 23]);
         assert!(archive.into_bytes() == table);
     }
@@ -70,14 +70,15 @@ fn wild_events_and_answers() {
             *code %= 12;
         }
         let number = archive.step_bytes(&wild).number();
-        if let Ok(event) = Event::from_bytes(&wild) {
+        if let Ok(event) = Event::try_from(&wild[..]) {
             assert_eq!(event.to_bytes().to_vec(), wild);
+            assert_eq!(event.to_string().parse(), Ok(event));
             assert!(!event.to_string().is_empty() && number != 10 && number != 23);
         }
-        if let Some(answer) = Answer::from_bytes(&wild) {
+        if let Ok(answer) = Answer::try_from(&wild[..]) {
             assert_eq!(answer.to_bytes().to_vec(), wild);
             assert!(!answer.to_string().is_empty());
         }
     }
-    assert!(archive.view().is_some_and(|view| look(&view) > 0));
+    assert!(archive.view().is_ok_and(|view| look(&view) > 0));
 }

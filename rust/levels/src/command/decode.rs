@@ -5,7 +5,6 @@ use level_archive::{EVENT_BYTES, EventError};
 
 use super::options::Options;
 use super::output::Output;
-use super::progress::Progress;
 use crate::failure::Failure;
 use crate::input::{Form, Item, Piece, Source};
 
@@ -13,10 +12,8 @@ use crate::input::{Form, Item, Piece, Source};
 pub fn decode(options: &Options) -> Result<(), Failure> {
     let source = Source::open(options.input.as_deref())?;
     let name = source.name.clone();
-    let mut progress = Progress::new(false);
     let mut lines = String::new();
     for (before, item) in source.events(Some(Form::Bytes))?.enumerate() {
-        progress.tick();
         let Item::Event(piece) = item? else { continue };
         match piece.event() {
             Ok(event) => lines.push_str(&event.to_string()),

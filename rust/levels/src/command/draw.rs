@@ -6,17 +6,18 @@ use super::output::Output;
 use crate::draw::{MOST_EVENTS, picture};
 use crate::failure::Failure;
 use crate::input::{Item, Source};
+use crate::story::Story;
 
 /// The picture of a run.
 pub fn draw(options: &Options) -> Result<(), Failure> {
-    let mut story = archive::usual(options)?;
+    let mut story = Story::of(archive::usual(options)?);
     let mut happenings = Vec::new();
     let source = Source::open(options.input.as_deref())?;
     let name = source.name.clone();
     for item in source.events(options.form)? {
         match item? {
             Item::Archive { sites, partitions, place } => {
-                story = archive::of_line(options, sites, partitions, &place)?;
+                story = Story::of(archive::of_line(options, sites, partitions, &place)?);
             }
             Item::Event(_) if happenings.len() == MOST_EVENTS => {
                 let most = "a picture shows at most";

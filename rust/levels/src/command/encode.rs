@@ -5,17 +5,14 @@ use std::io::{self, Write};
 
 use super::options::Options;
 use super::output::Output;
-use super::progress::Progress;
 use crate::failure::Failure;
 use crate::input::{Form, Item, Source};
 
 /// Text to bytes.
 pub fn encode(options: &Options) -> Result<(), Failure> {
     let source = Source::open(options.input.as_deref())?;
-    let mut progress = Progress::new(false);
     let mut bytes = Vec::new();
     for item in source.events(Some(Form::Text))? {
-        progress.tick();
         match item? {
             Item::Event(piece) => bytes.extend_from_slice(piece.bytes()),
             Item::Archive { sites, partitions, place } => {

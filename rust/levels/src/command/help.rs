@@ -21,7 +21,8 @@ Events as text, with # for comments:
     GET session 1 key 4                 DELIVER from 0 to 1 partition 1
 
 Exit codes: 0 all is well (a refused event is too), 1 a file cannot be read or
-written, 2 the command line or the input is wrong.
+written, 2 the command line or the input is wrong, 3 an event was refused and
+--strict was asked for.
 ";
 
 /// `levels encode --help`.
@@ -51,7 +52,7 @@ only fit its field's bytes: what is out of range the archive refuses.
 What is wrong is told as FILE:LINE:COLUMN, and then nothing is written.
 
     echo 'PUT session 0 key 4 level 1250' | levels encode | levels decode
-    levels encode story.txt -o story.events
+    levels encode docs/example.events.txt -o example.events
 ";
 
 /// `levels decode --help`.
@@ -75,12 +76,16 @@ is written.
 
 /// `levels run --help`.
 pub const RUN: &str = "\
-levels run [--text | --bytes] [--sites N] [--partitions N] [-o FILE] [FILE]
+levels run [--lines] [--strict] [--text | --bytes] [--sites N] [--partitions N]
+           [-o FILE] [FILE]
 
 Gives events to an empty archive and says in plain words what happens: what is
 refused and why, what waits and for whom, what is shown; at the end how many of each,
 and what is still on its way.
 
+    --lines              for scripts: the bench's lines and nothing else, once all is
+                         read: place, code, number, source, quality, level, stamp
+    --strict             exit code 3 if an event was refused
     --text, --bytes      how the input is written; without it the first 32 bytes
                          decide: text has no zeros, an event has
     --sites N            the archive's number of sites, 1 to 4; without it 4
@@ -92,9 +97,9 @@ FILE is read, or standard input if there is none or it is '-'. A text may begin 
 the line 'sites 2 partitions 3', which says the archive's numbers where the options do
 not. Typed by hand, each line is answered at once.
 
-    levels run story.txt
-    levels run vectors/base/document-01.events
-    levels encode story.txt | levels run --sites 2
+    levels run docs/example.events.txt
+    levels run --lines vectors/base/document-01.events
+    levels encode docs/example.events.txt | levels run --sites 2 --partitions 2
 ";
 
 /// `levels draw --help`.
@@ -114,5 +119,5 @@ each delivery. Marks say in plain words what happened when the pointer is on the
 FILE is read, or standard input if there is none or it is '-'; text may begin with
 the line 'sites 2 partitions 3'. At most 2000 events are drawn.
 
-    levels draw story.txt -o story.svg
+    levels draw docs/example.events.txt -o example.svg
 ";

@@ -2,14 +2,13 @@
 
 use std::ffi::OsStr;
 use std::fs::File;
-use std::io::{self, BufWriter, IsTerminal, Write};
+use std::io::{self, BufWriter, Write};
 
 use crate::failure::Failure;
 
 /// Where the command writes.
 pub struct Output {
     name: String,
-    terminal: bool,
     writer: BufWriter<Box<dyn Write>>,
 }
 
@@ -17,28 +16,15 @@ impl Output {
     /// A file, made empty; standard output where none is named, or `-`.
     pub fn open(path: Option<&OsStr>) -> Result<Output, Failure> {
         let Some(path) = path.filter(|path| *path != "-") else {
-            return Ok(Output::of(
-                "standard output",
-                io::stdout().is_terminal(),
-                Box::new(io::stdout()),
-            ));
+            return Ok(Output::of("standard output", Box::new(io::stdout())));
         };
         let name = path.to_string_lossy();
         let file = File::create(path).map_err(|error| Failure::io(&name, &error))?;
-        Ok(Output::of(&name, false, Box::new(file)))
+        Ok(Output::of(&name, Box::new(file)))
     }
 
-    fn of(name: &str, terminal: bool, writer: Box<dyn Write>) -> Output {
-        Output {
-            name: name.to_string(),
-            terminal,
-            writer: BufWriter::with_capacity(1 << 16, writer),
-        }
-    }
-
-    /// Whether a person watches it being written.
-    pub fn is_terminal(&self) -> bool {
-        self.terminal
+    fn of(name: &str, writer: Box<dyn Write>) -> Output {
+        Output { name: name.to_string(), writer: BufWriter::with_capacity(1 << 16, writer) }
     }
 
     /// Writes bytes.

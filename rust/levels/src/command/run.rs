@@ -3,26 +3,28 @@
 use std::io::{self, Write};
 
 use super::archive;
+use super::lines::lines;
 use super::options::Options;
 use super::output::Output;
-use super::progress::Progress;
 use crate::failure::Failure;
 use crate::input::{Item, Source};
 use crate::story::Story;
 use crate::words::{Sentence, Summary, on_the_way};
 
-/// A line for each event, and what is to be said at the end.
+/// A sentence for each event, and what is to be said at the end.
 pub fn run(options: &Options) -> Result<(), Failure> {
-    let mut story = archive::usual(options)?;
+    if options.lines {
+        return lines(options);
+    }
+    let mut story = Story::of(archive::usual(options)?);
     let mut summary = Summary::default();
     let source = Source::open(options.input.as_deref())?;
     let live = source.live;
     let mut output = Output::open(options.output.as_deref())?;
-    let mut progress = Progress::new(output.is_terminal());
     for item in source.events(options.form)? {
         match item {
             Ok(Item::Archive { sites, partitions, place }) => {
-                story = archive::of_line(options, sites, partitions, &place)?;
+                story = Story::of(archive::of_line(options, sites, partitions, &place)?);
             }
             Ok(Item::Event(piece)) => {
                 let happening = story.step(piece);
@@ -41,9 +43,9 @@ pub fn run(options: &Options) -> Result<(), Failure> {
         if live {
             output.finish()?;
         }
-        progress.tick();
     }
-    end(&story, &summary, &mut output)
+    end(&story, &summary, &mut output)?;
+    options.allow(summary.refused)
 }
 
 /// The last lines, after a blank one.

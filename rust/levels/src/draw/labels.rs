@@ -33,7 +33,8 @@ pub fn name(event: &Event) -> Vec<String> {
 pub fn result(happening: &Happening) -> Vec<String> {
     match (happening.answer, &happening.detail) {
         (Answer::Value(reading), _) => {
-            vec![level(reading.level, reading.quality), stamp(reading.source, reading.stamp)]
+            let quality = reading.quality.number();
+            vec![level(reading.level, quality), stamp(reading.source, reading.stamp)]
         }
         (Answer::Nothing, _) => vec!["nothing".to_string()],
         (Answer::Written { source, stamp: at }, _) => match happening.piece.event() {
@@ -76,9 +77,8 @@ fn stamp(site: u8, stamp: u64) -> String {
 /// A level; c is corrected, e estimated.
 fn level(level: i32, quality: u8) -> String {
     match quality {
-        0 => level.to_string(),
         1 => format!("{level} c"),
         2 => format!("{level} e"),
-        _ => format!("{level} ?"),
+        _ => level.to_string(),
     }
 }

@@ -1,5 +1,6 @@
 //! What the signs mean.
 
+use super::paths;
 use super::shapes::{self, Shape};
 use super::xml::Xml;
 
@@ -43,21 +44,22 @@ const SIGNS: [(Sign, &str); 15] = [
 
 /// Draws the legend below `top`.
 pub fn draw(xml: &mut Xml, top: i32) {
-    xml.open("g", &[("class", &"legend")]);
+    xml.open("g", r#"class="legend""#);
     for (place, (sign, words)) in (0..).zip(&SIGNS) {
         let (x, y) = (24 + COLUMN * (place / LINES), top + 20 + LINE * (place % LINES));
         match sign {
             Sign::Mark(shape, session) => shapes::draw(xml, x, y, *shape, *session),
             Sign::Path(class, path) => {
-                let path = format!("M{} {y}{path}", x - 11);
-                xml.leaf("path", &[("class", class), ("d", &path), ("marker-end", &"url(#head)")]);
+                paths::headed(xml, class, format_args!("M{} {y}{path}", x - 11));
             }
-            Sign::Text(text) => {
-                xml.text("text", &[("x", &(x - 11)), ("y", &(y + 4))], text);
-            }
+            Sign::Text(text) => write(xml, x - 11, y, text),
         }
         let distance = if matches!(sign, Sign::Text(_)) { WORDS_BEHIND_TEXT } else { WORDS };
-        xml.text("text", &[("x", &(x + distance)), ("y", &(y + 4))], words);
+        write(xml, x + distance, y, words);
     }
     xml.close();
+}
+
+fn write(xml: &mut Xml, x: i32, y: i32, text: &str) {
+    xml.text("text", format_args!(r#"x="{x}" y="{}""#, y + 4), text);
 }

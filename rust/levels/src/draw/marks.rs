@@ -1,5 +1,6 @@
 //! Which marks an event has, and where.
 
+use level_archive::limits::SESSIONS;
 use level_archive::{Answer, Event, Refusal};
 
 use super::labels::{name, result};
@@ -8,10 +9,8 @@ use super::rows::Row;
 use super::shapes::Shape;
 use crate::story::{Detail, Happening};
 
-/// There are sessions 0 to 15; a greater number has no line.
-const SESSIONS: u8 = 16;
-
-/// The marks of an event: at its node, at its session, or nowhere.
+/// The marks of an event: at its node, at its session if there is such a one, or
+/// nowhere.
 pub fn marks_of(happening: &Happening, left_over: &[u8]) -> Vec<Mark> {
     let session = happening.session();
     let of_session = session.filter(|session| *session < SESSIONS).map(Row::Session);

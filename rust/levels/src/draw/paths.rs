@@ -1,5 +1,7 @@
 //! Lines, brackets and arrows.
 
+use std::fmt::Display;
+
 use level_archive::Message;
 
 use super::Plan;
@@ -12,36 +14,34 @@ use super::travels::Travel;
 use super::xml::Xml;
 use crate::words::{named, update};
 
+/// The head of an arrow, in a box of 8 by 8 that ends at the arrow's end.
+const HEAD: &str = r#"id="head" viewBox="0 0 8 8" refX="7" refY="4" markerWidth="8" markerHeight="8" markerUnits="userSpaceOnUse" orient="auto""#;
+/// Faint.
+const FAINT: &str = r#"stroke-opacity="0.5" stroke-dasharray="1 4""#;
+
 /// The heads of arrows.
 pub fn arrow_heads(xml: &mut Xml) {
-    xml.open("defs", &[]);
-    xml.open(
-        "marker",
-        &[
-            ("id", &"head"),
-            ("viewBox", &"0 0 8 8"),
-            ("refX", &7),
-            ("refY", &4),
-            ("markerWidth", &8),
-            ("markerHeight", &8),
-            ("markerUnits", &"userSpaceOnUse"),
-            ("orient", &"auto"),
-        ],
-    );
-    xml.leaf("path", &[("d", &"M0 0.5L8 4L0 7.5z"), ("fill", &"#333")]);
+    xml.open("defs", "");
+    xml.open("marker", HEAD);
+    xml.leaf("path", r##"d="M0 0.5L8 4L0 7.5z" fill="#333""##);
     xml.close();
     xml.close();
 }
 
+/// A path with an arrow's head.
+pub fn headed(xml: &mut Xml, class: &str, path: impl Display) {
+    xml.leaf("path", format_args!(r#"class="{class}" d="{path}" marker-end="url(#head)""#));
+}
+
 /// The names of the lines, and the lines of nodes; a session's own line is a span.
 pub fn lines(xml: &mut Xml, plan: &Plan) {
+    let right = plan.right();
     for &(row, y) in plan.rows.all() {
-        xml.text("text", &[("class", &"name"), ("x", &12), ("y", &(y + 4))], &row.name());
+        xml.text("text", format_args!(r#"class="name" x="12" y="{}""#, y + 4), &row.name());
         let class = if row.is_node() { "node" } else { "quiet" };
-        let right = plan.right();
         xml.leaf(
             "line",
-            &[("class", &class), ("x1", &LEFT), ("y1", &y), ("x2", &right), ("y2", &y)],
+            format_args!(r#"class="{class}" x1="{LEFT}" y1="{y}" x2="{right}" y2="{y}""#),
         );
     }
 }
@@ -53,18 +53,8 @@ pub fn guides(xml: &mut Xml, plan: &Plan) {
         let Some(session) = happening.session() else { continue };
         let top = plan.rows.y(Row::Session(session));
         let stroke = colour(Some(session)).fill;
-        xml.leaf(
-            "line",
-            &[
-                ("x1", &x),
-                ("y1", &top),
-                ("x2", &x),
-                ("y2", &bottom),
-                ("stroke", &stroke),
-                ("stroke-opacity", &0.5),
-                ("stroke-dasharray", &"1 4"),
-            ],
-        );
+        let ends = format_args!(r#"x1="{x}" y1="{top}" x2="{x}" y2="{bottom}""#);
+        xml.leaf("line", format_args!(r#"{ends} stroke="{stroke}" {FAINT}"#));
     }
 }
 
@@ -75,23 +65,19 @@ pub fn span(xml: &mut Xml, plan: &Plan, span: &Span) {
     let end = span.end.map_or(plan.right(), |event| plan.columns.x(event));
     let stroke = colour(Some(span.session)).fill;
     let Some(keys) = &span.page else {
-        let path = format!("M{begin} {y}H{end}");
-        xml.leaf("path", &[("d", &path), ("stroke", &stroke), ("stroke-width", &2)]);
+        xml.leaf(
+            "path",
+            format_args!(r#"d="M{begin} {y}H{end}" stroke="{stroke}" stroke-width="2""#),
+        );
         return;
     };
     let closing = if span.end.is_some() { "v7" } else { "" };
     let path = format!("M{begin} {}v-7H{end}{closing}", y - 4);
     xml.leaf(
         "path",
-        &[
-            ("class", &"page"),
-            ("d", &path),
-            ("fill", &"none"),
-            ("stroke", &stroke),
-            ("stroke-width", &2),
-        ],
+        format_args!(r#"class="page" d="{path}" fill="none" stroke="{stroke}" stroke-width="2""#),
     );
-    xml.text("text", &[("x", &begin), ("y", &(y - 15))], &page_text(keys));
+    xml.text("text", format_args!(r#"x="{begin}" y="{}""#, y - 15), &page_text(keys));
 }
 
 /// The arrow of a message that arrived.
@@ -100,16 +86,15 @@ pub fn arrow(xml: &mut Xml, plan: &Plan, travel: &Travel) {
     else {
         return;
     };
-    let path = way(from, to);
     let (class, what) = match &travel.message {
         Message::Update(record) => ("arrow", update(record)),
         Message::Heartbeat { source, stamp } => {
             ("arrow beat", format!("heartbeat with stamp {stamp} of site {source}"))
         }
     };
-    xml.open("g", &[]);
-    xml.text("title", &[], &what);
-    xml.leaf("path", &[("class", &class), ("d", &path), ("marker-end", &"url(#head)")]);
+    xml.open("g", "");
+    xml.text("title", "", &what);
+    headed(xml, class, way(from, to));
     xml.close();
 }
 
@@ -131,16 +116,12 @@ pub fn stubs(xml: &mut Xml, x: i32, y: i32, mark: &Mark) {
         if sites.is_empty() {
             continue;
         }
-        let path = format!("M{} {y}L{} {}", x + 9, x + 22, y + 6 * down);
-        xml.open("g", &[]);
-        xml.text("title", &[], &format!("still on the way to {}", named("site", sites)));
-        xml.leaf("path", &[("class", &"stub"), ("d", &path), ("marker-end", &"url(#head)")]);
-        let baseline = y + 6 * down + 3;
-        xml.text(
-            "text",
-            &[("class", &"to"), ("x", &(x + STUB_TEXT)), ("y", &baseline)],
-            &stub_text(sites),
-        );
+        let end = y + 6 * down;
+        xml.open("g", "");
+        xml.text("title", "", &format!("still on the way to {}", named("site", sites)));
+        headed(xml, "stub", format_args!("M{} {y}L{} {end}", x + 9, x + 22));
+        let place = format_args!(r#"class="to" x="{}" y="{}""#, x + STUB_TEXT, end + 3);
+        xml.text("text", place, &stub_text(sites));
         xml.close();
     }
 }

@@ -4,8 +4,6 @@
 
 use std::collections::BTreeSet;
 
-use super::mark::Mark;
-
 /// A line of the picture.
 #[derive(Clone, Copy, Debug, PartialEq, Eq, PartialOrd, Ord)]
 pub enum Row {
@@ -44,11 +42,10 @@ pub struct Rows {
 }
 
 impl Rows {
-    /// The lines that marks stand on.
-    pub fn of(marks: &[Vec<Mark>]) -> Rows {
-        let occurring: BTreeSet<Row> = marks.iter().flatten().map(|mark| mark.row).collect();
+    /// The lines that occur, in any order and any number of times.
+    pub fn of(occurring: impl Iterator<Item = Row>) -> Rows {
         let mut rows: Vec<(Row, i32)> = Vec::new();
-        for row in occurring {
+        for row in occurring.collect::<BTreeSet<Row>>() {
             let y = rows.last().map_or(52, |(above, y)| y + distance(*above, row));
             rows.push((row, y));
         }

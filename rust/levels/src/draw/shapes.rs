@@ -52,17 +52,14 @@ pub fn draw(xml: &mut Xml, x: i32, y: i32, shape: Shape, session: Option<u8>) {
         Shape::Tick => stroke(xml, &format!("M{x} {}v10", y - 5), "#555", 2),
         Shape::Bar => stroke(xml, &format!("M{x} {}v12", y - 6), fill, 4),
         Shape::Cross => stroke(xml, &format!("M{} {}l6 6m0 -6l-6 6", x - 3, y - 3), "#777", 2),
-        Shape::Dot => xml.leaf("circle", &[("cx", &x), ("cy", &y), ("r", &3), ("fill", &fill)]),
+        Shape::Dot => {
+            xml.leaf("circle", format_args!(r#"cx="{x}" cy="{y}" r="3" fill="{fill}""#));
+        }
         Shape::Ring => xml.leaf(
             "circle",
-            &[
-                ("cx", &x),
-                ("cy", &y),
-                ("r", &5),
-                ("fill", &"#fff"),
-                ("stroke", &fill),
-                ("stroke-width", &3),
-            ],
+            format_args!(
+                r##"cx="{x}" cy="{y}" r="5" fill="#fff" stroke="{fill}" stroke-width="3""##
+            ),
         ),
     }
 }
@@ -71,21 +68,21 @@ pub fn draw(xml: &mut Xml, x: i32, y: i32, shape: Shape, session: Option<u8>) {
 fn outline(xml: &mut Xml, path: String, x: i32, y: i32, session: Option<u8>, hollow: bool) {
     let colour = colour(session);
     let (fill, ink) = if hollow { ("#fff", "#222") } else { (colour.fill, colour.ink) };
+    let stroke = colour.fill;
     xml.leaf(
         "path",
-        &[("d", &path), ("fill", &fill), ("stroke", &colour.fill), ("stroke-width", &2)],
+        format_args!(r#"d="{path}" fill="{fill}" stroke="{stroke}" stroke-width="2""#),
     );
     if let Some(session) = session {
-        let attributes: [(&str, &dyn std::fmt::Display); 4] =
-            [("class", &"inside"), ("x", &x), ("y", &(y + 4)), ("style", &format!("fill: {ink}"))];
-        xml.text("text", &attributes, &session.to_string());
+        let place = format_args!(r#"class="inside" x="{x}" y="{}" style="fill: {ink}""#, y + 4);
+        xml.text("text", place, &session.to_string());
     }
 }
 
 fn stroke(xml: &mut Xml, path: &str, colour: &str, width: i32) {
     xml.leaf(
         "path",
-        &[("d", &path), ("fill", &"none"), ("stroke", &colour), ("stroke-width", &width)],
+        format_args!(r#"d="{path}" fill="none" stroke="{colour}" stroke-width="{width}""#),
     );
 }
 

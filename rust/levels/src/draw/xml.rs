@@ -1,9 +1,7 @@
-//! XML, an element a line, always well formed.
+//! XML, an element a line, always well formed. Attributes stand as they are written:
+//! they hold numbers and names of our own. Text is escaped.
 
-use std::fmt::{Display, Write};
-
-/// An attribute: its name and value.
-pub type Attribute<'a> = (&'a str, &'a dyn Display);
+use std::fmt::Display;
 
 /// A document that is being written.
 pub struct Xml {
@@ -15,17 +13,14 @@ impl Xml {
     /// An SVG of this width and height.
     pub fn svg(width: i32, height: i32) -> Xml {
         let mut xml = Xml { text: String::new(), open: Vec::new() };
-        let view = format!("0 0 {width} {height}");
         let space = "http://www.w3.org/2000/svg";
-        xml.open(
-            "svg",
-            &[("xmlns", &space), ("viewBox", &view), ("width", &width), ("height", &height)],
-        );
+        let size = format_args!(r#"width="{width}" height="{height}""#);
+        xml.open("svg", format_args!(r#"xmlns="{space}" viewBox="0 0 {width} {height}" {size}"#));
         xml
     }
 
     /// An element that holds what follows, until it is closed.
-    pub fn open(&mut self, name: &'static str, attributes: &[Attribute]) {
+    pub fn open(&mut self, name: &'static str, attributes: impl Display) {
         self.tag(name, attributes, ">");
         self.open.push(name);
     }
@@ -33,17 +28,17 @@ impl Xml {
     /// Closes the element that was opened last.
     pub fn close(&mut self) {
         if let Some(name) = self.open.pop() {
-            self.line(&format!("</{name}>"));
+            self.text += &format!("</{name}>\n");
         }
     }
 
     /// An element without content.
-    pub fn leaf(&mut self, name: &str, attributes: &[Attribute]) {
+    pub fn leaf(&mut self, name: &str, attributes: impl Display) {
         self.tag(name, attributes, "/>");
     }
 
     /// An element with text in it.
-    pub fn text(&mut self, name: &str, attributes: &[Attribute], text: &str) {
+    pub fn text(&mut self, name: &str, attributes: impl Display, text: &str) {
         self.tag(name, attributes, &format!(">{}</{name}>", escaped(text)));
     }
 
@@ -55,17 +50,10 @@ impl Xml {
         self.text
     }
 
-    fn tag(&mut self, name: &str, attributes: &[Attribute], end: &str) {
-        let mut tag = format!("<{name}");
-        for (attribute, value) in attributes {
-            // writing to a string does not fail
-            let _ = write!(tag, " {attribute}=\"{}\"", escaped(&value.to_string()));
-        }
-        self.line(&(tag + end));
-    }
-
-    fn line(&mut self, line: &str) {
-        self.text.push_str(line);
+    fn tag(&mut self, name: &str, attributes: impl Display, end: &str) {
+        let tag = format!("<{name} {attributes}");
+        self.text += tag.trim_end();
+        self.text += end;
         self.text.push('\n');
     }
 }
@@ -97,10 +85,10 @@ mod tests {
     #[test]
     fn signs_are_escaped_and_elements_closed() {
         let mut xml = Xml::svg(1, 2);
-        xml.open("g", &[("class", &"a\"<")]);
-        xml.text("title", &[], "x > 1 & y\u{1b}");
+        xml.open("g", "");
+        xml.text("title", "", "x > 1 & y\u{1b}");
         let expected = "<svg xmlns=\"http://www.w3.org/2000/svg\" viewBox=\"0 0 1 2\" width=\"1\" height=\"2\">\n\
-            <g class=\"a&quot;&lt;\">\n<title>x &gt; 1 &amp; y\u{fffd}</title>\n</g>\n</svg>\n";
+            <g>\n<title>x &gt; 1 &amp; y\u{fffd}</title>\n</g>\n</svg>\n";
         assert_eq!(xml.finish(), expected);
     }
 }

@@ -23,7 +23,7 @@ impl Piece {
         let bytes = bytes.get(..EVENT_BYTES).unwrap_or(bytes);
         let mut room = [0; EVENT_BYTES];
         room[..bytes.len()].copy_from_slice(bytes);
-        Piece { room, length: bytes.len(), event: Event::from_bytes(bytes) }
+        Piece { room, length: bytes.len(), event: Event::try_from(bytes) }
     }
 
     /// Its bytes: 32, or fewer at the end of cut input.

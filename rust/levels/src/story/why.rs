@@ -1,17 +1,15 @@
 //! Why an event waits or is refused, from the table that it left unchanged.
 
+use level_archive::limits::MESSAGES;
 use level_archive::{Event, NodeView, Refusal, SessionView, View};
 
 use super::{Detail, Node, Unheard};
 
-/// How many messages fill a channel.
-const FULL: usize = 8;
-
 /// Why an event waits at a node.
-pub fn waits(view: &View, event: &Event, node: Node) -> Option<Detail> {
+pub fn waits(view: &View, event: Event, node: Node) -> Option<Detail> {
     let there = view.node(node.site, node.partition)?;
     let own = usize::from(node.site);
-    Some(match *event {
+    Some(match event {
         Event::Get { session, .. } => {
             let mut needed = view.session(session)?.vector;
             needed[own] = 0; // a GET does not wait for its own site
@@ -37,8 +35,8 @@ fn clock_too_early(node: &NodeView, session: &SessionView, own: usize) -> Detail
 }
 
 /// More about a refusal, where there is more to say than its number.
-pub fn refused(view: &View, event: &Event, refusal: Refusal, node: Option<Node>) -> Option<Detail> {
-    match (refusal, *event) {
+pub fn refused(view: &View, event: Event, refusal: Refusal, node: Option<Node>) -> Option<Detail> {
+    match (refusal, event) {
         (Refusal::BeforeClock, _) => {
             let node = node?;
             Some(Detail::ClockIs(view.node(node.site, node.partition)?.clock))
@@ -53,11 +51,12 @@ pub fn refused(view: &View, event: &Event, refusal: Refusal, node: Option<Node>)
             Some(Detail::UnreadKeys(unread.map(|(key, _)| key).collect()))
         }
         (Refusal::ChannelFull, _) => {
-            let Node { site, partition } = node?;
-            let full = |to: &u8| {
-                view.channel(site, *to, partition).is_some_and(|messages| messages.len() >= FULL)
-            };
-            Some(Detail::FullTo((0..view.sites()).filter(full).collect()))
+            let node = node?;
+            let full = view.channels().filter(|channel| {
+                (channel.from, channel.partition) == (node.site, node.partition)
+                    && channel.messages.len() >= usize::from(MESSAGES)
+            });
+            Some(Detail::FullTo(full.map(|channel| channel.to).collect()))
         }
         _ => None,
     }

@@ -25,8 +25,3 @@ pub fn counted(number: u64, name: &str) -> String {
     let end = if number == 1 { "" } else { "s" };
     format!("{number} {name}{end}")
 }
-
-/// `[101, 0]`.
-pub fn vector(entries: &[u64]) -> String {
-    format!("{entries:?}")
-}

@@ -1,14 +1,13 @@
 //! What became of an event: the sentence's second half.
 
-use level_archive::{Answer, Event, Message, Quality, Reading, Record, Refusal};
+use level_archive::{Answer, Event, Message, Reading, Record, Refusal};
 
-use super::list::{named, vector};
+use super::list::named;
 use crate::story::{Detail, Happening, Unheard};
 
 /// What became of an event, as a sentence goes on after it: `waits at node 1,0: ..`.
 pub fn outcome(happening: &Happening) -> String {
     match happening.answer {
-        Answer::Done => done(happening),
         Answer::Written { stamp, .. } => written(happening, stamp),
         Answer::Value(reading) => format!("shows {}", shown(reading)),
         Answer::Nothing => match happening.piece.event() {
@@ -19,14 +18,15 @@ pub fn outcome(happening: &Happening) -> String {
         },
         Answer::Wait => waits(happening),
         Answer::Refused(refusal) => refused(happening, refusal),
+        _ => done(happening),
     }
 }
 
 fn done(happening: &Happening) -> String {
     match &happening.detail {
         Detail::Vector(entries) => match happening.piece.event() {
-            Ok(Event::Begin { .. }) => format!("opens a page as of {}", vector(entries)),
-            _ => format!("closes the page, and the session has seen {}", vector(entries)),
+            Ok(Event::Begin { .. }) => format!("opens a page as of {entries:?}"),
+            _ => format!("closes the page, and the session has seen {entries:?}"),
         },
         Detail::Sent { stamp, to } if to.is_empty() => {
             format!("is done with stamp {stamp}, and there is no other site to tell")
@@ -66,8 +66,6 @@ pub fn update(record: &Record) -> String {
 
 fn shown(reading: Reading) -> String {
     let Reading { source, quality, level, stamp } = reading;
-    let quality = Quality::try_from(quality)
-        .map_or_else(|number| format!("quality {number}"), |quality| quality.to_string());
     format!("{level} mm, {quality}, with stamp {stamp} of site {source}")
 }
 

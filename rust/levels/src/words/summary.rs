@@ -2,7 +2,7 @@
 
 use std::fmt;
 
-use level_archive::{Answer, View};
+use level_archive::{Answer, ChannelView, View};
 
 use super::list::counted;
 
@@ -13,18 +13,19 @@ pub struct Summary {
     shown: u64,
     nothing: u64,
     waits: u64,
-    refused: u64,
+    /// Those that were refused.
+    pub refused: u64,
 }
 
 impl Summary {
     /// Counts one answer more.
     pub fn count(&mut self, answer: Answer) {
         *match answer {
-            Answer::Done | Answer::Written { .. } => &mut self.done,
             Answer::Value(_) => &mut self.shown,
             Answer::Nothing => &mut self.nothing,
             Answer::Wait => &mut self.waits,
             Answer::Refused(_) => &mut self.refused,
+            _ => &mut self.done,
         } += 1;
     }
 
@@ -44,19 +45,11 @@ impl fmt::Display for Summary {
     }
 }
 
-/// The channels that hold messages, in words, by partition and sender.
-pub fn on_the_way(view: &View) -> Vec<String> {
-    let sites = 0..view.sites();
-    let pairs = sites.clone().flat_map(|from| sites.clone().map(move |to| (from, to)));
-    let channels = pairs
-        .flat_map(|(from, to)| (0..view.partitions()).map(move |partition| (from, to, partition)));
-    channels
-        .filter_map(|(from, to, partition)| {
-            let messages = view.channel(from, to, partition)?.len() as u64;
-            (messages > 0).then(|| {
-                let messages = counted(messages, "message");
-                format!("{messages} on the way from {from} to {to} partition {partition}")
-            })
-        })
-        .collect()
+/// The channels that hold messages, in words.
+pub fn on_the_way(view: &View) -> impl Iterator<Item = String> {
+    let busy = view.channels().filter(|channel| !channel.messages.is_empty());
+    busy.map(|ChannelView { from, to, partition, messages }| {
+        let messages = counted(messages.len() as u64, "message");
+        format!("{messages} on the way from {from} to {to} partition {partition}")
+    })
 }

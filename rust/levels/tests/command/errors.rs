@@ -1,6 +1,6 @@
 //! What is wrong is said, with its place, and by the exit code.
 
-use crate::support::{levels, scratch};
+use crate::support::{levels, repository, scratch};
 
 #[test]
 fn bad_lines_have_line_and_column() {
@@ -33,7 +33,6 @@ fn bad_lines_have_line_and_column() {
         ("BEGIN session 0 partition 0 keys 1 2 3 4 5 6 7 8 9", "50: a page has at most 8 keys"),
         ("BEGIN session 0 partition 0 keys 1 2 x", "38: key x is not a number"),
         ("DELIVER from 0 to 1", "20: expected partition, found the end of the line"),
-        ("sites two partitions 1", "7: sites two is not a number"),
         ("sites 2 partitions 2", "1: sites and partitions stand once, before the first event"),
     ];
     for (line, message) in bad {
@@ -101,6 +100,18 @@ fn exit_codes() {
 }
 
 #[test]
+fn a_strict_run_says_whether_anything_was_refused() {
+    let waits = b"OPEN session 0 site 0\nPUT session 0 key 0 level 1\n";
+    let refused = b"OPEN session 0 site 0\nCLOSE session 3\nBEAT 0,9\n";
+    for form in [&["run", "--strict"][..], &["run", "--strict", "--lines"]] {
+        assert_eq!(levels(form, waits).code, Some(0));
+        let done = levels(form, refused);
+        assert_eq!((done.code, done.errors.as_str()), (Some(3), "levels: 2 events refused\n"));
+        assert!(done.text().lines().count() >= 3, "all is written: {}", done.text());
+    }
+}
+
+#[test]
 fn a_wrong_command_line_says_where_help_is() {
     assert!(
         levels(&[], b"").errors.starts_with("levels: which command?\n\nThe level archive by hand.")
@@ -135,6 +146,10 @@ fn help_for_each() {
         assert!(help.lines().all(|line| line.chars().count() <= 88), "{help}");
         assert_eq!(levels(&["help", command], b"").text(), help);
         assert_eq!(levels(&[command, "-h"], b"").text(), help);
+        let files = help.split_whitespace().filter(|word| word.contains(".events"));
+        for file in files.filter(|file| file.contains('/')) {
+            assert!(repository(file).is_file(), "{file}");
+        }
     }
     assert_eq!(levels(&["--help"], b"").good(), levels(&["help"], b"").good());
     assert_eq!(levels(&["--version"], b"").text(), "levels 0.1.0\n");

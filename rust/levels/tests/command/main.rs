@@ -3,6 +3,7 @@
 
 mod draw;
 mod errors;
+mod lines;
 mod run;
 mod support;
 mod text;

@@ -21,7 +21,7 @@ fn document_01_there_and_back() {
 fn every_event_file_there_and_back() {
     for (bytes, _) in vectors() {
         let good: Vec<&[u8]> =
-            bytes.chunks(32).filter(|piece| Event::from_bytes(piece).is_ok()).collect();
+            bytes.chunks(32).filter(|piece| Event::try_from(*piece).is_ok()).collect();
         let good = good.concat();
         let text = levels(&["decode"], &good).good();
         assert_eq!(levels(&["encode"], &text).good(), good);
@@ -38,7 +38,7 @@ fn files_as_well_as_standard_input_and_output() {
     let events = events.to_str().expect("a name");
     let text = scratch("there.txt", b"");
     let back = scratch("back.events", b"old");
-    assert!(levels(&["decode", events, "-o", &text], b"").good().is_empty());
+    assert!(levels(&["decode", events, &format!("-o{text}")], b"").good().is_empty());
     assert!(levels(&["encode", &text, "--output", &back], b"").good().is_empty());
     assert_eq!(std::fs::read(back).expect("written"), read("vectors/base/document-01.events"));
     assert_eq!(levels(&["encode", "-"], b"").good(), b"");

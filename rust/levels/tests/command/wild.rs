@@ -2,7 +2,7 @@
 
 use crate::support::{Chance, levels};
 use crate::xml::well_formed;
-use levels::text;
+use level_archive::Event;
 
 /// Words that come near to events.
 const WORDS: [&str; 30] = [
@@ -49,7 +49,7 @@ fn lines_of_words() {
     let mut chance = Chance(1);
     for _ in 0..200_000 {
         let line = line(&mut chance);
-        if let Err(error) = text::parse(&line) {
+        if let Err(error) = line.parse::<Event>() {
             assert!((1..=line.chars().count() + 1).contains(&error.column), "{line:?} {error:?}");
         }
     }

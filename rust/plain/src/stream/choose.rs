@@ -25,19 +25,18 @@ impl Stream {
             50..=65 => self.choose_read(),
             66..=70 => self.choose_end(),
             71..=77 => self.choose_beat(),
-            _ => match self.random.below(4) < self.lag {
-                true => self.choose_beat(),
-                false => self.choose_deliver(),
-            },
+            _ if self.random.below(4) < self.lag => self.choose_beat(),
+            _ => self.choose_deliver(),
         }
     }
 
     /// An OPEN, or mostly a GET when no session is left to open.
     fn choose_open(&mut self) -> Bytes {
         let session = self.session(|session| !session.open);
-        match self.archive.session(session.into()).open && self.random.chance(800) {
-            true => self.choose_get(),
-            false => make::open(session, self.site()),
+        if self.archive.session(session.into()).open && self.random.chance(800) {
+            self.choose_get()
+        } else {
+            make::open(session, self.site())
         }
     }
 
@@ -133,9 +132,10 @@ impl Stream {
         };
         let all = sites * sites * partitions;
         let lawful = |number| apart(number).0 != apart(number).1;
-        let number = match self.random.chance(BLIND) {
-            true => self.random.one_where(all, lawful),
-            false => self.random.one_where(all, waiting),
+        let number = if self.random.chance(BLIND) {
+            self.random.one_where(all, lawful)
+        } else {
+            self.random.one_where(all, waiting)
         };
         let (from, to, partition) = apart(number.unwrap_or_else(|| self.random.below(all)));
         make::deliver(from as u8, to as u8, partition as u8)
@@ -144,9 +144,10 @@ impl Stream {
     /// Mostly a session that fits.
     fn session(&mut self, fits: impl Fn(&Session) -> bool) -> u8 {
         let archive = &self.archive;
-        let found = match self.random.chance(BLIND) {
-            true => None,
-            false => self.random.one_where(SESSIONS, |number| fits(archive.session(number))),
+        let found = if self.random.chance(BLIND) {
+            None
+        } else {
+            self.random.one_where(SESSIONS, |number| fits(archive.session(number)))
         };
         found.unwrap_or_else(|| self.random.below(SESSIONS)) as u8
     }
@@ -161,9 +162,10 @@ impl Stream {
 
     /// Mostly one of the stream's few keys.
     fn key(&mut self) -> u8 {
-        match self.random.chance(BLIND) {
-            true => self.random.below(KEYS) as u8,
-            false => *self.random.one_of(&self.keys),
+        if self.random.chance(BLIND) {
+            self.random.below(KEYS) as u8
+        } else {
+            *self.random.one_of(&self.keys)
         }
     }
 

@@ -1,6 +1,6 @@
 //! Damages the next event of a stream.
 
-use super::{Stream, LONGEST};
+use super::{LONGEST, Stream};
 use crate::limits::*;
 
 impl Stream {

@@ -4,7 +4,7 @@ use super::Stream;
 use crate::event::code;
 use crate::limits::{EVENT_BYTES, LAST_TIME};
 use crate::make::{self, Bytes};
-use crate::vector::{greatest, Vector};
+use crate::vector::{Vector, greatest};
 
 impl Stream {
     /// Plans for the event that has just waited.

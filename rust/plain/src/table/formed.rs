@@ -1,4 +1,6 @@
-//! "A table is well formed when": the whole check, first to last byte.
+//! "A table is well formed when": the whole check, first to last byte. Sets of keys,
+//! masks and words of eight bytes stand here for speed alone: what each tests is said
+//! beside it.
 
 use super::layout::{self, ChannelBytes, NodeBytes, RecordBytes, SessionBytes, Table};
 use crate::limits::*;
@@ -14,7 +16,8 @@ pub fn well_formed(bytes: &[u8]) -> bool {
     lawful && Setting::new(sites, partitions).accepts(table)
 }
 
-/// For each number of partitions from 1, the keys of each: bit k for key k.
+/// For each number of partitions from 1, the keys of each: bit k for key k. It saves
+/// a division by the number of partitions.
 const KEYS_OF: [[u64; PARTITIONS]; PARTITIONS] = [keys_of(1), keys_of(2), keys_of(3), keys_of(4)];
 
 const fn keys_of(partitions: usize) -> [u64; PARTITIONS] {
@@ -67,7 +70,7 @@ impl Setting {
     /// lawful vectors.
     fn session(&self, bytes: &SessionBytes) -> bool {
         let [open, site, paged, count] = *bytes.first_chunk().expect("a session has 128 bytes");
-        let marks = layout::word(bytes, 16);
+        let marks = layout::word(bytes, 16); // eight, each 0 or 1
         open <= 1
             && paged <= 1
             && marks & !0x0101_0101_0101_0101 == 0

@@ -63,11 +63,7 @@ pub(super) fn channel(table: &Table, from: usize, partition: usize, place: usize
 /// The place of a site among the sites other than `from`.
 #[inline]
 pub(super) fn place_of(to: usize, from: usize) -> usize {
-    if to < from {
-        to
-    } else {
-        to - 1
-    }
+    if to < from { to } else { to - 1 }
 }
 
 /// The record in a slot of a node.

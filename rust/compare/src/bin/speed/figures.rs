@@ -64,7 +64,7 @@ pub fn verdict(met: bool) -> &'static str {
 fn grouped(number: u64) -> String {
     let digits = number.to_string();
     let places = digits.char_indices();
-    let comma = |place: usize| place > 0 && (digits.len() - place).is_multiple_of(3);
+    let comma = |place: usize| place > 0 && (digits.len() - place) % 3 == 0;
     places.fold(String::new(), |text, (place, digit)| {
         text + if comma(place) { "," } else { "" } + &digit.to_string()
     })

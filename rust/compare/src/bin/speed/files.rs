@@ -72,9 +72,10 @@ fn run(program: &Path, input: &Path, output: &PathBuf) -> io::Result<Duration> {
     let (from, to) = (File::open(input)?, File::create(output)?);
     let start = Instant::now();
     let status = Command::new(program).stdin(Stdio::from(from)).stdout(Stdio::from(to)).status()?;
-    match status.success() {
-        true => Ok(start.elapsed()),
-        false => Err(io::Error::other(format!("{} gave {status}", program.display()))),
+    if status.success() {
+        Ok(start.elapsed())
+    } else {
+        Err(io::Error::other(format!("{} gave {status}", program.display())))
     }
 }
 

@@ -3,7 +3,6 @@
 use std::hint::black_box;
 use std::time::{Duration, Instant};
 
-use compare::subject::told;
 use level_archive::{ANSWER_BYTES, Archive, EVENT_BYTES};
 use plain::table;
 
@@ -72,7 +71,7 @@ fn both(scene: &Scene) -> Both {
 /// Brings the bytes to the end of a stretch, which isn't timed: so the check looks
 /// at the bytes that the core has there.
 fn follow(both: &mut Both, events: &[u8]) {
-    both.core.run_bytes(events, &mut vec![0; events.len() / EVENT_BYTES * ANSWER_BYTES]);
+    both.core.run_into(events, &mut vec![0; events.len() / EVENT_BYTES * ANSWER_BYTES]);
 }
 
 fn step(core: &mut Archive, events: &[u8], _: &mut [u8]) -> u64 {
@@ -81,21 +80,21 @@ fn step(core: &mut Archive, events: &[u8], _: &mut [u8]) -> u64 {
 
 /// The whole check over the table's bytes, then the step over structs.
 fn plain_step(both: &mut Both, events: &[u8], _: &mut [u8]) -> u64 {
-    each(events, |event| match table::well_formed(black_box(both.core.bytes())) {
-        true => both.archive.step(event).number,
-        false => 24,
+    each(events, |event| {
+        let formed = table::well_formed(black_box(both.core.as_bytes()));
+        if formed { both.archive.step(event).number } else { 24 }
     })
 }
 
 fn run(core: &mut Archive, events: &[u8], answers: &mut [u8]) -> u64 {
-    core.run_bytes(events, answers) as u64
+    core.run_into(events, answers) as u64
 }
 
 /// Events over structs, with answers of 16 bytes as `run` gives them.
 fn run_structs(both: &mut Both, events: &[u8], answers: &mut [u8]) -> u64 {
     let places = answers.chunks_exact_mut(ANSWER_BYTES);
     for (event, answer) in events.chunks_exact(EVENT_BYTES).zip(places) {
-        answer.copy_from_slice(&told(&both.archive.step(event)));
+        answer.copy_from_slice(&both.archive.step(event).to_bytes());
     }
     answers[0].into()
 }
@@ -106,7 +105,7 @@ fn check(both: &mut Both, events: &[u8], _: &mut [u8]) -> u64 {
 }
 
 fn plain_check(both: &mut Both, events: &[u8], _: &mut [u8]) -> u64 {
-    each(events, |_| table::well_formed(black_box(both.core.bytes())).into())
+    each(events, |_| table::well_formed(black_box(both.core.as_bytes())).into())
 }
 
 /// The ways give the same answers and the same table.
@@ -117,7 +116,7 @@ pub fn agree(scene: &Scene) {
     run(&mut both.core, &scene.events, &mut answers);
     run_structs(&mut both, &scene.events, &mut of_structs);
     assert!(answers == of_structs, "the answers differ");
-    let said = table::read(both.core.bytes()).expect("a well-formed table");
+    let said = table::read(both.core.as_bytes()).expect("a well-formed table");
     assert_eq!(table::difference(&said, &both.archive), None);
 }
 

@@ -119,8 +119,7 @@ impl Script {
         let mut archive = plain::Archive::new(SITES, PARTITIONS).expect("4 and 4");
         let mut core = Archive::new(SITES as u32, PARTITIONS as u32).expect("4 and 4");
         for event in self.before.chunks(32) {
-            archive.step(event);
-            core.step_bytes(event);
+            assert_eq!(core.step_bytes(event).number(), archive.step(event).number);
         }
         let mut events = self.events;
         events.truncate(32 * length);

@@ -1,4 +1,4 @@
-/* Prints what the header's functions give, for tests/all/c.rs to compare: the texts, the events, sizes and places, an answer out of bytes. */
+/* Prints what the header's functions give, for tests/all/c.rs to compare: the version, the texts, the events, sizes and places, limits, an answer out of bytes. */
 #include <inttypes.h>
 #include <stdio.h>
 
@@ -16,27 +16,27 @@ static void print_event(void) {
 static void print_events(void) {
     static const uint8_t keys[9] = {7, 6, 5, 4, 3, 2, 1, 0, 0};
     static const uint8_t eight[8] = {1, 2, 3, 4, 5, 6, 7, 8};
-    level_archive_open(event, 15, 3);
+    level_archive_event_open(event, 15, 3);
     print_event();
-    level_archive_close(event, 14);
+    level_archive_event_close(event, 14);
     print_event();
-    level_archive_clock(event, 2, 1, UINT64_C(0x0102030405060708));
+    level_archive_event_clock(event, 2, 1, UINT64_C(0x0102030405060708));
     print_event();
-    level_archive_get(event, 13, 63);
+    level_archive_event_get(event, 13, 63);
     print_event();
-    level_archive_put(event, 12, 62, LEVEL_ARCHIVE_ESTIMATED, LEVEL_ARCHIVE_LOWEST_LEVEL);
+    level_archive_event_put(event, 12, 62, LEVEL_ARCHIVE_ESTIMATED, LEVEL_ARCHIVE_LOWEST_LEVEL);
     print_event();
-    level_archive_begin(event, 11, 3, keys, 3);
+    level_archive_event_begin(event, 11, 3, keys, 3);
     print_event();
-    level_archive_begin(event, 11, 3, eight, 8);
+    level_archive_event_begin(event, 11, 3, eight, 8);
     print_event();
-    level_archive_read(event, 10, 61);
+    level_archive_event_read(event, 10, 61);
     print_event();
-    level_archive_end(event, 9);
+    level_archive_event_end(event, 9);
     print_event();
-    level_archive_beat(event, 1, 2);
+    level_archive_event_beat(event, 1, 2);
     print_event();
-    level_archive_deliver(event, 3, 2, 1);
+    level_archive_event_deliver(event, 3, 2, 1);
     print_event();
 }
 
@@ -49,10 +49,14 @@ static void print_answer(void) {
 
 int main(void) {
     int number;
+    printf("%s %d\n", LEVEL_ARCHIVE_VERSION, LEVEL_ARCHIVE_VERSION_NUMBER);
     for (number = 0; number < 256; number++) printf("%d %s\n", number, level_archive_text((uint8_t)number));
     print_events();
     printf("%d %d %d ", (int)sizeof(level_archive_answer), (int)offsetof(level_archive_answer, level), (int)offsetof(level_archive_answer, stamp));
     printf("%d %d %d\n", LEVEL_ARCHIVE_TABLE_BYTES, LEVEL_ARCHIVE_EVENT_BYTES, LEVEL_ARCHIVE_ANSWER_BYTES);
+    printf("%d %d %d %d ", LEVEL_ARCHIVE_MOST_SITES, LEVEL_ARCHIVE_MOST_PARTITIONS, LEVEL_ARCHIVE_LAST_SESSION, LEVEL_ARCHIVE_LAST_KEY);
+    printf("%d %" PRIu64 " ", LEVEL_ARCHIVE_PAGE_KEYS, LEVEL_ARCHIVE_LAST_TIME);
+    printf("%d %d\n", LEVEL_ARCHIVE_LOWEST_LEVEL, LEVEL_ARCHIVE_HIGHEST_LEVEL);
     print_answer();
     return 0;
 }
