@@ -1,5 +1,6 @@
 -- Document 01 without bytes, in the order in which it is best read. Above the line: the model, from values to runs. Below it: what is promised.
 pub mod Record
+pub mod Shelf
 pub mod State
 pub mod Event
 pub mod View
