@@ -21,15 +21,16 @@ use denote.Builtin.{u8, u64}
 use denote.Steps.{owned}
 use denote.Struct.Steps.{spelt}
 use denote.Struct.Laws as LL
+use Rattle.vector.specs.Vec.{raised}
 use Rattle.vector.specs.Entries.{entry}
 use Rattle.vector.specs.declared.Vector.{Vector}
 use Rattle.vector.proofs.Vector as E
 use Rattle.vector.proofs.Vector.Laws as E′
+use Rattle.protocol.specs.State.{withVec}
 use Rattle.table.specs.Values.{asSession}
 use Rattle.table.specs.declared.Session.{Session}
 use Rattle.table.proofs.Session as T
 use Rattle.table.proofs.Session.Laws as T′
-use Rattle.decision.specs.Raised.{raisedSession}
 
 abbrev pub R : RattleType
 R = T.the-row
@@ -63,7 +64,7 @@ Ranges p = Is E.the-row (p .0) (vec (p .0) ∷ []) × ((p .1 .0 < 2 ^ 8) × (p .
 -- ---- what is ensured of the session afterwards
 
 abbrev pub Raised : Session → Beside → Session → Type 0
-Raised h p r = asSession r ≡ raisedSession (asSession h) (entry (p .0 .e)) (p .1 .0) (p .1 .1 .0)
+Raised h p r = asSession r ≡ withVec (asSession h) (raised (asSession h .vec) (entry (p .0 .e)) (p .1 .0) (p .1 .1 .0))
 
 module _ {M : Type 1} (𝓤 : URA M) (H : Heap 𝓤) (A : Atoms 𝓤) (W : Given 𝓤 H A) where
   pub typed : (h : Session) (v : Val) → Is R h (v ∷ []) → Holds (hasTy T′.mir v) × WT v

@@ -1,6 +1,5 @@
--- The search as a loop finds it and what it gives; a page's keys and marks; a session that was raised; what a decision says of the protocol.
+-- The search as a loop finds it and what it gives; a page's keys and marks; what a decision says of the protocol.
 pub mod Search
 pub mod Found
 pub mod Marks
-pub mod Raised
 pub mod Decided

@@ -9,7 +9,7 @@ ghost use Rattle.codec.specs.Le.{load};
 ghost use Rattle.vector.specs.Vec.{allBelow, withEntry};
 ghost use Rattle.vector.specs.Entries.{entry};
 ghost use Rattle.protocol.specs.Record.{Update};
-ghost use Rattle.protocol.specs.State.{opened};
+ghost use Rattle.protocol.specs.State.{withVec};
 ghost use Rattle.protocol.specs.Event.{CLOCK, BEAT, PUT, DELIVER};
 ghost use Rattle.protocol.specs.Needs.{putReady, frontUpdates};
 ghost use Rattle.protocol.specs.Change.{SetSession, Publish, Receive};
@@ -159,7 +159,7 @@ fn is_ready(t: &[u8], m: u8, p: u8, v: Vector) -> bool
 // "The record carries the session's vector as it was before"; then the session's own entry becomes the stamp.
 fn stored(s: u8, x: Session, p: u8, key: u8, quality: u8, level: i32, stamp: u64) -> Decided
     requires { ⌜ x .site < 4 ⌝ }
-    ensures { λ r. ⌜ outcomeOf r ≡ (Stamped (x .site) stamp and Publish (x .site) p (Update (written (asSession x) key quality level stamp)) ∷ SetSession s (opened (x .site) (withEntry (asSession x .vec) (x .site) stamp) (asSession x .page)) ∷ []) ⌝ }
+    ensures { λ r. ⌜ outcomeOf r ≡ (Stamped (x .site) stamp and Publish (x .site) p (Update (written (asSession x) key quality level stamp)) ∷ SetSession s (withVec (asSession x) (withEntry (asSession x .vec) (x .site) stamp)) ∷ []) ⌝ }
 {
     let m = x.site;
     let old = x.vec;

@@ -1,26 +1,21 @@
--- `decision::keeping::begun` meets its contract: a session that was opened, but for its vector and its page. Assumes nothing.
-use mathlib.Core.Path.{ap, _∙_}
-use mathlib.Core.Bool.{true, false}
+-- `decision::keeping::begun` meets its contract: the session as it was, but for its page.
+use mathlib.Core.Bool.{false}
 use borrow.Author.Needs.{needs}
-use lib.ListN.{replicate}
-use Rattle.vector.specs.Entries.{entry}
-use Rattle.protocol.specs.State.{Session, noPage, opened}
+use Rattle.protocol.specs.Serve.{begun}
 use Rattle.table.specs.Values.{asSession}
-use Rattle.decision.specs.Marks.{marksOn}
+use Rattle.table.proofs.Values.{entry-zeros}
 use Rattle.decision.proofs.Backward.{marks-begun}
 use Rattle.decision.proofs.keeping.begun.Statement.{statement}
 use Rattle.decision.proofs.keeping.begun.Tie as tie
 
-opened-requires : tie.Need-opened-requires
-opened-requires c κs = search needs
+larger-requires : tie.Need-larger-requires
+larger-requires c κs = search needs
 
 returns : tie.Need-returns
-unfolding asSession opened noPage
+unfolding asSession begun
 returns c =
     let s = c .before .before .before in
-    let a = s .args in
-    ap (λ (y : Session). record { isOpen = y .isOpen; site = y .site; vec = entry (a .x .vec .e); page = record { isOpen = true; vec = entry (a .page .e); marks = marksOn (a .keys) (replicate 8 false) (a .count); gathered = y .page .gathered } }) (c .before .before .opened .ensures)
-    ∙ rw (marks-begun (a .keys) (a .count) (s .pre))
+    rw (c .before .larger .ensures, entry-zeros, marks-begun (s .args .keys) (s .args .count) (s .pre))
 
 pub begun-spec : {M : Type 1} → statement M
-begun-spec = tie.close (tie.spec opened-requires returns)
+begun-spec = tie.close (tie.spec larger-requires returns)
