@@ -13,3 +13,4 @@ pub mod Past
 pub mod Causal
 pub mod Count
 pub mod Promises
+pub mod Marked
