@@ -33,9 +33,8 @@ pub fn begin(t: &[u8], s: u8, p: u8, count: u8, keys: [u8; 8]) -> Decided
     if !marks::distinct(keys, count as usize) {
         return answers::refused(17);
     }
-    let vec = x.vec;
-    let page = lookup::heard(t, x.site, p).larger_of(vec);
-    answers::kept(Answer::Done, s, keeping::begun(x, page, keys, count))
+    let coordinator = lookup::heard(t, x.site, p);
+    answers::kept(Answer::Done, s, keeping::begun(x, coordinator, keys, count))
 }
 
 // READ of key k: "every entry of the node's vector, m included, is at least the page's", and then the newest record that fits the page is shown.
@@ -63,10 +62,7 @@ pub fn read(t: &[u8], s: u8, k: u8) -> Decided
         return answers::refused(3);
     }
     let found = lookup::newest(t, m, p, k, true, page);
-    let gathered = x.gathered;
-    let raised = answers::raised_by(gathered, found);
-    let read = marks::read(keys, marks, count, k);
-    answers::kept(answers::shown(found), s, keeping::read_on(x, read, raised))
+    answers::kept(answers::shown(found), s, keeping::read_on(x, k, found))
 }
 
 // END of the page: "raises the session's vector, as for GET", by what the page gathered, which has no stamp of its own.

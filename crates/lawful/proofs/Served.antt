@@ -14,9 +14,9 @@ use lib.ListN.{length}
 use mir.Facts.{and-yes, or-yes, ltb-yes, leb-yes, eqb-yes, eqb-no}
 use Rattle.codec.proofs.Tests.{cond-elim, implies}
 use Rattle.codec.proofs.Below.{all-below-at}
-use Rattle.vector.specs.Vec.{Vec, zeros, larger, withEntry}
+use Rattle.vector.specs.Vec.{Vec, larger, withEntry}
 use Rattle.protocol.specs.Record.{Setting, partOf, Rec, Msg, Update, Beat, newest, ofKey, fitsPage, raisedBy}
-use Rattle.protocol.specs.State.{Mark, Page, Session, State, noPage, closed, opened}
+use Rattle.protocol.specs.State.{Mark, Page, Session, State, noPage, closed, opened, withVec, withPage}
 use Rattle.protocol.specs.Event.{Event, OPEN, CLOSE, CLOCK, GET, PUT, BEGIN, READ, END, BEAT, DELIVER}
 use Rattle.protocol.specs.View.{View, view}
 use Rattle.protocol.specs.Needs.{levelLawful, keysLawful, distinct, ranges, needs, beatSends, storeRoom, sendRoom, frontUpdates}
@@ -74,9 +74,15 @@ module _ (c : Setting) where
   unfolding closed
   closed-lawful = record { site = omega arith; here = λ t. absurd t; vec = zeros-lawful c; page = no-page-lawful }
 
-  opened-lawful : (m : ℕ) (v : Vec) (g : Page) → c .sites ≤ 4 → m < c .sites → LawfulVec c v → LawfulPage c g → LawfulSession c (opened m v g)
+  opened-lawful : (m : ℕ) → c .sites ≤ 4 → m < c .sites → LawfulSession c (opened m)
   unfolding opened
-  opened-lawful m v g few h ok page = record { site = omega arith; here = λ t. h; vec = ok; page = page }
+  opened-lawful m few h = record { site = omega arith; here = λ t. h; vec = zeros-lawful c; page = no-page-lawful }
+
+  with-vec-lawful : (x : Session) (v : Vec) → LawfulSession c x → LawfulVec c v → LawfulSession c (withVec x v)
+  with-vec-lawful x v X ok = record { site = X .site; here = X .here; vec = ok; page = X .page }
+
+  with-page-lawful : (x : Session) (g : Page) → LawfulSession c x → LawfulPage c g → LawfulSession c (withPage x g)
+  with-page-lawful x g X ok = record { site = X .site; here = X .here; vec = X .vec; page = ok }
 
   -- what a search finds among lawful records raises a lawful vector to one
   found-lawful : (p : ℕ) (l : List Rec) (fit : Rec → Bool) (v : Vec) → ((r : Rec) → r ∈ l → LawfulRec c p r) → LawfulVec c v → LawfulVec c (raisedBy v (newest c fit l))
@@ -165,8 +171,11 @@ module _ (S : State) (ok : LawfulState S) where
     real : x .site < 4
     real = omega (arith, here, ok .sites)
 
-    session-set : (v : Vec) (g : Page) → LawfulVec c v → LawfulPage c g → LawfulAll (SetSession s (opened (x .site) v g) ∷ []) S
-    session-set v g a b = ((h, opened-lawful c (x .site) v g (ok .sites) here a b), tt)
+    vec-set : (v : Vec) → LawfulVec c v → LawfulAll (SetSession s (withVec x v) ∷ []) S
+    vec-set v a = ((h, with-vec-lawful c x v (ok .session s h) a), tt)
+
+    page-set : (g : Page) → LawfulPage c g → LawfulAll (SetSession s (withPage x g) ∷ []) S
+    page-set g a = ((h, with-page-lawful c x g (ok .session s h) a), tt)
 
     raised-set : (k : ℕ) (fit : Rec → Bool) (v : Vec) → LawfulVec c v → LawfulVec c (raisedBy v (newest c fit (S .net .store (x .site) (partOf c k))))
     raised-set k fit v a =
@@ -175,7 +184,7 @@ module _ (S : State) (ok : LawfulState S) where
 
     put-set : (k q : ℕ) (l : ℤ) → k < 64 → q < 3 → T (levelLawful l) → length (S .net .store (x .site) (partOf c k)) < 32
         → ((j : ℕ) → j < c .sites → (j ≡ x .site → ⊥) → length (S .net .chan (x .site) j (partOf c k)) < 8)
-        → LawfulAll (Publish (x .site) (partOf c k) (Update (written x k q l (S .net .clock (x .site) (partOf c k)))) ∷ SetSession s (opened (x .site) (withEntry (x .vec) (x .site) (S .net .clock (x .site) (partOf c k))) (x .page)) ∷ []) S
+        → LawfulAll (Publish (x .site) (partOf c k) (Update (written x k q l (S .net .clock (x .site) (partOf c k)))) ∷ SetSession s (withVec x (withEntry (x .vec) (x .site) (S .net .clock (x .site) (partOf c k)))) ∷ []) S
     unfolding written apply publish
     put-set k q l a b d room ways =
         let p = partOf c k in
@@ -189,7 +198,7 @@ module _ (S : State) (ok : LawfulState S) where
             room = room;
             ways = ways;
           },
-          ((h, opened-lawful c (x .site) (withEntry (x .vec) (x .site) (S .net .clock (x .site) p)) (x .page) (ok .sites) here (with-entry-lawful c (x .vec) (x .site) (S .net .clock (x .site) p) (X .vec) here clock) (X .page)), tt),
+          ((h, with-vec-lawful c x (withEntry (x .vec) (x .site) (S .net .clock (x .site) p)) X (with-entry-lawful c (x .vec) (x .site) (S .net .clock (x .site) p) (X .vec) here clock)), tt),
         )
 
   take-set : (i m p : ℕ) (q : List Msg) → i < c .sites → m < c .sites → (i ≡ m → ⊥) → p < c .parts → ((y : Msg) → y ∈ q → LawfulMsg c i p y)
@@ -201,14 +210,14 @@ module _ (S : State) (ok : LawfulState S) where
 
   serve-lawful : (e : Event) → Met (ranges c e) → Met (needs (view S e) e) → LawfulAll (serve (view S e) e .changes) S
   unfolding serve needs ranges
-  serve-lawful (OPEN s m) r t = ((ltb-yes (r .1 .0), opened-lawful c m zeros noPage (ok .sites) (ltb-yes (r .0)) (zeros-lawful c) (no-page-lawful c)), tt)
+  serve-lawful (OPEN s m) r t = ((ltb-yes (r .1 .0), opened-lawful c m (ok .sites) (ltb-yes (r .0))), tt)
   serve-lawful (CLOSE s) r t = ((ltb-yes (r .0), closed-lawful c), tt)
   serve-lawful (CLOCK m p u) r t = ((ltb-yes (r .0), ltb-yes (r .1 .0), ltb-yes (r .1 .1 .0)), tt)
   serve-lawful (GET s k) r t =
       let h : s < 16 = ltb-yes (r .0) in
       let X = ok .session s h in
       let v = raisedBy (S .session s .vec) (newest c (ofKey k) (S .net .store (S .session s .site) (partOf c k))) in
-      session-set s h (t .0) v (S .session s .page) (raised-set s h (t .0) k (ofKey k) (S .session s .vec) (X .vec)) (X .page)
+      vec-set s h (t .0) v (raised-set s h (t .0) k (ofKey k) (S .session s .vec) (X .vec))
   serve-lawful (PUT s k q l) r t =
       let m = S .session s .site in
       put-set s (ltb-yes (r .0)) (t .0) k q l (ltb-yes (r .1 .0)) (ltb-yes (r .1 .1 .0)) (r .1 .1 .1 .0) (store-room (S .net .store m (partOf c k)) (t .1 .1 .0))
@@ -219,7 +228,7 @@ module _ (S : State) (ok : LawfulState S) where
       let v = S .net .heard (S .session s .site) p in
       let part : p < c .parts = ltb-yes (r .0) in
       let count = and-yes (ltb 0 (length ks)) (leb (length ks) 8) (r .1 .1 .0) in
-      session-set s h (t .0) (S .session s .vec) (begun v (S .session s .vec) ks) (X .vec)
+      page-set s h (t .0) (begun v (S .session s .vec) ks)
       (begun-lawful c v (S .session s .vec) ks (ltb-yes (count .0)) (leb-yes (count .1)) (r .1 .1 .1 .0) (t .1 .1 .0)
       (ok .heard (S .session s .site) p (real s h (t .0)) (omega (arith, ok .parts))) (X .vec))
   serve-lawful (READ s k) r t =
@@ -228,12 +237,14 @@ module _ (S : State) (ok : LawfulState S) where
       let g = S .session s .page in
       let fit = fitsPage k (g .vec) in
       let o = newest c fit (S .net .store (S .session s .site) (partOf c k)) in
-      session-set s h (t .0) (S .session s .vec) (readOn g k o) (X .vec)
+      page-set s h (t .0) (readOn g k o)
       (read-lawful c g k o (t .1 .0) (X .page) (raised-set s h (t .0) k fit (g .gathered) (X .page .gathered)))
   serve-lawful (END s) r t =
       let h : s < 16 = ltb-yes (r .0) in
       let X = ok .session s h in
-      session-set s h (t .0) (larger (S .session s .vec) (S .session s .page .gathered)) noPage (larger-lawful c (S .session s .vec) (S .session s .page .gathered) (X .vec) (X .page .gathered)) (no-page-lawful c)
+      let x = S .session s in
+      let v = larger (x .vec) (x .page .gathered) in
+      ((h, with-page-lawful c (withVec x v) noPage (with-vec-lawful c x v X (larger-lawful c (x .vec) (x .page .gathered) (X .vec) (X .page .gathered))) (no-page-lawful c)), tt)
   serve-lawful (BEAT m p) r t =
       let site : m < c .sites = ltb-yes (r .0) in
       let part : p < c .parts = ltb-yes (r .1 .0) in

@@ -1,4 +1,3 @@
--- A page's keys and marks; a session that was raised; what a decision says of the protocol.
+-- A page's keys and marks; what a decision says of the protocol.
 pub mod Marks
-pub mod Raised
 pub mod Decided

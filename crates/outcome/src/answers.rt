@@ -6,7 +6,7 @@ ghost use Prim.Native.Nat.{_<_};
 ghost use Rattle.vector.specs.Vec.{withEntry};
 ghost use Rattle.vector.specs.Entries.{entry};
 ghost use Rattle.protocol.specs.Record.{Update, raisedBy};
-ghost use Rattle.protocol.specs.State.{opened};
+ghost use Rattle.protocol.specs.State.{withVec};
 ghost use Rattle.protocol.specs.Change.{Publish, Receive, SetSession};
 ghost use Rattle.protocol.specs.Serve.{written, _and_};
 ghost use Rattle.protocol.specs.declared.Answer.the-variants.{Done, Stamped};
@@ -99,7 +99,7 @@ pub fn done(effect: Effect) -> Decided
 // "The record carries the session's vector as it was before"; then the session's own entry becomes the stamp.
 pub fn stored(s: u8, x: Session, p: u8, key: u8, quality: u8, level: i32, stamp: u64) -> Decided
     requires { ⌜ x .site < 4 ⌝ }
-    ensures { λ r. ⌜ outcomeOf r ≡ (Stamped (x .site) stamp and Publish (x .site) p (Update (written (asSession x) key quality level stamp)) ∷ SetSession s (opened (x .site) (withEntry (asSession x .vec) (x .site) stamp) (asSession x .page)) ∷ []) ⌝ }
+    ensures { λ r. ⌜ outcomeOf r ≡ (Stamped (x .site) stamp and Publish (x .site) p (Update (written (asSession x) key quality level stamp)) ∷ SetSession s (withVec (asSession x) (withEntry (asSession x .vec) (x .site) stamp)) ∷ []) ⌝ }
 {
     let m = x.site;
     let old = x.vec;

@@ -1,15 +1,16 @@
 // Sessions as decisions leave them, by value. In order: closed and opened, another vector, and a page that is begun, read on and ended.
-// Assumes nothing.
 ghost use mathlib.Core.Path.{_≡_};
-ghost use mathlib.Core.Bool.{true};
-ghost use Prim.Native.Nat.{_≤_};
-ghost use Rattle.vector.specs.Vec.{zeros};
+ghost use Prim.Native.Nat.{_≤_, _<_};
 ghost use Rattle.vector.specs.Entries.{entry};
-ghost use Rattle.protocol.specs.State.{noPage, closed, opened};
-ghost use Rattle.protocol.specs.Serve.{unread};
+ghost use Rattle.protocol.specs.State.{noPage, closed, opened, withVec, withPage};
+ghost use Rattle.protocol.specs.Serve.{begun, readOn};
 ghost use Rattle.parts.specs.Meaning.{asSession};
-ghost use Rattle.outcome.specs.Marks.{keysOn, marksOn};
+ghost use Rattle.search.specs.Found.{foundOf};
+ghost use Rattle.outcome.specs.Marks.{keysOn};
+use crate::answers;
+use crate::marks;
 use parts::Session;
+use search::Found;
 use vector::Vector;
 
 pub fn closed() -> Session
@@ -31,7 +32,7 @@ pub fn closed() -> Session
 
 // "zero vector, no page"
 pub fn opened(m: u8) -> Session
-    ensures { λ r. ⌜ asSession r ≡ opened m zeros noPage ⌝ }
+    ensures { λ r. ⌜ asSession r ≡ opened m ⌝ }
 {
     let mut x = closed();
     x.open = true;
@@ -39,50 +40,56 @@ pub fn opened(m: u8) -> Session
     x
 }
 
-// An open session with another vector.
+// With another vector.
 pub fn with_vector(x: Session, vec: Vector) -> Session
-    ensures { λ r. ⌜ asSession r ≡ opened (x .site) (entry (vec .e)) (asSession x .page) ⌝ }
+    ensures { λ r. ⌜ asSession r ≡ withVec (asSession x) (entry (vec .e)) ⌝ }
 {
     let mut y = x;
-    y.open = true;
     y.vec = vec;
     y
 }
 
-// With a page of the first `count` keys, none read, and the page's vector.
-pub fn begun(x: Session, page: Vector, keys: [u8; 8], count: u8) -> Session
+// With a page of the first `count` keys, none read, begun by a coordinator that has this vector.
+pub fn begun(x: Session, coordinator: Vector, keys: [u8; 8], count: u8) -> Session
     requires { ⌜ count ≤ 8 ⌝ }
-    ensures { λ r. ⌜ asSession r ≡ opened (x .site) (entry (x .vec .e)) (record { isOpen = true; vec = entry (page .e); marks = unread (keysOn keys count); gathered = zeros }) ⌝ }
+    ensures { λ r. ⌜ asSession r ≡ withPage (asSession x) (begun (entry (coordinator .e)) (asSession x .vec) (keysOn keys count)) ⌝ }
 {
-    let mut y = opened(x.site);
     let vec = x.vec;
-    y.vec = vec;
+    let zero = Vector::zero();
+    let mut y = x;
     y.paged = true;
-    y.page = page;
+    y.page = coordinator.larger_of(vec);
     y.keys = keys;
     y.marks = [false; 8];
     y.count = count;
+    y.gathered = zero;
     y
 }
 
-// With other marks on its page, and what the page has gathered.
-pub fn read_on(x: Session, marks: [bool; 8], gathered: Vector) -> Session
-    ensures { λ r. ⌜ asSession r ≡ opened (x .site) (entry (x .vec .e)) (record { isOpen = true; vec = entry (x .page .e); marks = marksOn (x .keys) marks (x .count); gathered = entry (gathered .e) }) ⌝ }
+// With key k of its page read, and gathered what was found.
+pub fn read_on(x: Session, k: u8, found: Found) -> Session
+    requires { ⌜ (x .count ≤ 8) × (found .reading .source < 4) ⌝ }
+    ensures { λ r. ⌜ asSession r ≡ withPage (asSession x) (readOn (asSession x .page) k (foundOf found)) ⌝ }
 {
+    let keys = x.keys;
+    let marks = x.marks;
+    let gathered = x.gathered;
+    let read = marks::read(keys, marks, x.count as usize, k);
     let mut y = x;
-    y.open = true;
     y.paged = true;
-    y.marks = marks;
-    y.gathered = gathered;
+    y.marks = read;
+    y.gathered = answers::raised_by(gathered, found);
     y
 }
 
 // With no page.
 pub fn ended(x: Session) -> Session
-    ensures { λ r. ⌜ asSession r ≡ opened (x .site) (entry (x .vec .e)) noPage ⌝ }
+    ensures { λ r. ⌜ asSession r ≡ withPage (asSession x) noPage ⌝ }
 {
-    let mut y = opened(x.site);
     let vec = x.vec;
+    let mut y = closed();
+    y.open = x.open;
+    y.site = x.site;
     y.vec = vec;
     y
 }

@@ -1,14 +1,13 @@
 // "A shown record raises the session's vector .. The session's record is lent to that raising and updated there." In order: the session by value, the
 // raising that it is lent to, its owner, who lends it, and what a read leaves of it. GET and END raise sessions here and nowhere else. Assumes nothing.
 ghost use mathlib.Core.Path.{_≡_};
-ghost use mathlib.Core.Bool.{true};
 ghost use Prim.Native.Nat.{_<_};
+ghost use Rattle.vector.specs.Vec.{raised};
 ghost use Rattle.vector.specs.Entries.{entry};
 ghost use Rattle.protocol.specs.Record.{raisedBy};
-ghost use Rattle.protocol.specs.State.{opened};
+ghost use Rattle.protocol.specs.State.{withVec};
 ghost use Rattle.parts.specs.Meaning.{asSession};
 ghost use Rattle.search.specs.Found.{foundOf};
-ghost use Rattle.outcome.specs.Raised.{raisedSession};
 use parts::Session;
 use search::Found;
 use vector::Vector;
@@ -16,7 +15,7 @@ use vector::Vector;
 // The session with its vector raised, and otherwise as it is.
 fn raised(x: Session, carried: Vector, source: u8, stamp: u64) -> Session
     requires { ⌜ source < 4 ⌝ }
-    ensures { λ r. ⌜ asSession r ≡ raisedSession (asSession x) (entry (carried .e)) source stamp ⌝ }
+    ensures { λ r. ⌜ asSession r ≡ withVec (asSession x) (raised (asSession x .vec) (entry (carried .e)) source stamp) ⌝ }
 {
     let mut y = x;
     let vec = x.vec;
@@ -27,7 +26,7 @@ fn raised(x: Session, carried: Vector, source: u8, stamp: u64) -> Session
 // The session is lent, and raised where it lies.
 pub fn raise(x: &mut Session, carried: Vector, source: u8, stamp: u64)
     requires { ⌜ source < 4 ⌝ }
-    ensures { λ _. ⌜ asSession (now (x .exit)) ≡ raisedSession (asSession (now (x .entry))) (entry (carried .e)) source stamp ⌝ }
+    ensures { λ _. ⌜ asSession (now (x .exit)) ≡ withVec (asSession (now (x .entry))) (raised (asSession (now (x .entry)) .vec) (entry (carried .e)) source stamp) ⌝ }
 {
     *x = raised(*x, carried, source, stamp);
 }
@@ -35,17 +34,17 @@ pub fn raise(x: &mut Session, carried: Vector, source: u8, stamp: u64)
 // Holds the session and lends it.
 pub fn lent(x: Session, carried: Vector, source: u8, stamp: u64) -> Session
     requires { ⌜ source < 4 ⌝ }
-    ensures { λ r. ⌜ asSession r ≡ raisedSession (asSession x) (entry (carried .e)) source stamp ⌝ }
+    ensures { λ r. ⌜ asSession r ≡ withVec (asSession x) (raised (asSession x .vec) (entry (carried .e)) source stamp) ⌝ }
 {
     let mut y = x;
     raise(&mut y, carried, source, stamp);
     y
 }
 
-// An open session after a read: raised by the record that was found, or as it is.
+// A session after a read: raised by the record that was found, or as it is.
 pub fn raised_by(x: Session, found: Found) -> Session
-    requires { ⌜ (x .open ≡ true) × (found .reading .source < 4) ⌝ }
-    ensures { λ r. ⌜ asSession r ≡ opened (x .site) (raisedBy (entry (x .vec .e)) (foundOf found)) (asSession x .page) ⌝ }
+    requires { ⌜ found .reading .source < 4 ⌝ }
+    ensures { λ r. ⌜ asSession r ≡ withVec (asSession x) (raisedBy (asSession x .vec) (foundOf found)) ⌝ }
 {
     if !found.found {
         return x;

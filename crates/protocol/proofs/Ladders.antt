@@ -6,9 +6,9 @@ use mathlib.Core.Bool.{Bool, true, false, cond, not, _&&_, _||_}
 use mathlib.Core.List.{List, [], _∷_}
 use lib.Dec.{leb}
 use lib.IntN.{ℤ}
-use Rattle.vector.specs.Vec.{zeros, larger, withEntry}
+use Rattle.vector.specs.Vec.{larger, withEntry}
 use Rattle.protocol.specs.Record.{partOf, Msg, Update, Beat, newest, ofKey, fitsPage, raisedBy}
-use Rattle.protocol.specs.State.{Session, noPage, closed, opened}
+use Rattle.protocol.specs.State.{Session, noPage, closed, opened, withVec, withPage}
 use Rattle.protocol.specs.Event.{OPEN, CLOSE, CLOCK, GET, PUT, BEGIN, READ, END, BEAT, DELIVER, Answer, Done, Stamped, Refused, plain, shown}
 use Rattle.protocol.specs.View.{View}
 use Rattle.protocol.specs.Needs.{getReady, putReady, readReady, beatSends, storeRoom, sendRoom, isEmpty, frontUpdates, distinct, awaited, allRead, needs}
@@ -34,6 +34,13 @@ ifNoPage x o = ifOpen x (cond (not (x .page .isOpen)) o (refuse 14))
 abbrev pub ifPage : Session → Outcome → Outcome
 ifPage x o = ifOpen x (cond (x .page .isOpen) o (refuse 15))
 
+-- where the first tests hold
+pub if-no-page : (x : Session) {o : Outcome} → x .isOpen ≡ true → x .page .isOpen ≡ false → ifNoPage x o ≡ o
+if-no-page x {o} e f = λ i. cond (e i) (cond (not (f i)) o (refuse 14)) (refuse 12)
+
+pub if-page : (x : Session) {o : Outcome} → x .isOpen ≡ true → x .page .isOpen ≡ true → ifPage x o ≡ o
+if-page x {o} e f = λ i. cond (e i) (cond (f i) o (refuse 15)) (refuse 12)
+
 module _ (v : View) where
   abbrev x : Session
   x = v .session
@@ -41,7 +48,7 @@ module _ (v : View) where
   -- ---- events of a session
 
   abbrev pub openOf : (s m : ℕ) → Outcome
-  openOf s m = cond (not (x .isOpen)) (keeps Done s (opened m zeros noPage)) (refuse 13)
+  openOf s m = cond (not (x .isOpen)) (keeps Done s (opened m)) (refuse 13)
 
   pub open-judged : (s m : ℕ) → judged v (OPEN s m) ≡ openOf s m
   unfolding judged judge needs serve
@@ -58,7 +65,7 @@ module _ (v : View) where
   getOf s k =
       let p = partOf (v .setting) k in
       let o = newest (v .setting) (ofKey k) (v .store p) in
-      ifNoPage x (cond (getReady (x .site) (v .heard p) (x .vec)) (keeps (shown o) s (opened (x .site) (raisedBy (x .vec) o) (x .page))) (refuse 3))
+      ifNoPage x (cond (getReady (x .site) (v .heard p) (x .vec)) (keeps (shown o) s (withVec x (raisedBy (x .vec) o))) (refuse 3))
 
   pub get-judged : (s k : ℕ) → judged v (GET s k) ≡ getOf s k
   unfolding judged judge needs serve
@@ -66,7 +73,7 @@ module _ (v : View) where
 
   -- where the stamp is t
   abbrev pub stampedBy : (s k q : ℕ) (l : ℤ) (p t : ℕ) → Outcome
-  stampedBy s k q l p t = Stamped (x .site) t and Publish (x .site) p (Update (written x k q l t)) ∷ SetSession s (opened (x .site) (withEntry (x .vec) (x .site) t) (x .page)) ∷ []
+  stampedBy s k q l p t = Stamped (x .site) t and Publish (x .site) p (Update (written x k q l t)) ∷ SetSession s (withVec x (withEntry (x .vec) (x .site) t)) ∷ []
 
   -- by room for the record and room in the node's channels
   abbrev pub putAt : (s k q : ℕ) (l : ℤ) (p : ℕ) (slot room : Bool) → Outcome
@@ -80,7 +87,7 @@ module _ (v : View) where
   put-judged s k q l = refl
 
   abbrev pub beginOf : (s p : ℕ) (ks : List ℕ) → Outcome
-  beginOf s p ks = ifNoPage x (cond (distinct ks) (keeps Done s (opened (x .site) (x .vec) (begun (v .heard p) (x .vec) ks))) (refuse 17))
+  beginOf s p ks = ifNoPage x (cond (distinct ks) (keeps Done s (withPage x (begun (v .heard p) (x .vec) ks))) (refuse 17))
 
   pub begin-judged : (s p : ℕ) (ks : List ℕ) → judged v (BEGIN s p ks) ≡ beginOf s p ks
   unfolding judged judge needs serve
@@ -91,14 +98,14 @@ module _ (v : View) where
       let p = partOf (v .setting) k in
       let g = x .page in
       let o = newest (v .setting) (fitsPage k (g .vec)) (v .store p) in
-      ifPage x (cond (awaited k (g .marks)) (cond (readReady (v .heard p) (g .vec)) (keeps (shown o) s (opened (x .site) (x .vec) (readOn g k o))) (refuse 3)) (refuse 16))
+      ifPage x (cond (awaited k (g .marks)) (cond (readReady (v .heard p) (g .vec)) (keeps (shown o) s (withPage x (readOn g k o))) (refuse 3)) (refuse 16))
 
   pub read-judged : (s k : ℕ) → judged v (READ s k) ≡ readOf s k
   unfolding judged judge needs serve
   read-judged s k = refl
 
   abbrev pub endOf : (s : ℕ) → Outcome
-  endOf s = ifPage x (cond (allRead (x .page .marks)) (keeps Done s (opened (x .site) (larger (x .vec) (x .page .gathered)) noPage)) (refuse 18))
+  endOf s = ifPage x (cond (allRead (x .page .marks)) (keeps Done s (withPage (withVec x (larger (x .vec) (x .page .gathered))) noPage)) (refuse 18))
 
   pub end-judged : (s : ℕ) → judged v (END s) ≡ endOf s
   unfolding judged judge needs serve

@@ -1,6 +1,7 @@
 -- From the laws of the parts, by the invariant and its two halves, to the promises; then what is shown by closed runs.
 pub mod Order
 pub mod Search
+pub mod Shelf
 pub mod Places
 pub mod Judge
 pub mod Front

@@ -14,6 +14,7 @@ use Rattle.protocol.specs.Record.{partOf, Rec, Msg, Update, Beat, stampI
 use Rattle.protocol.specs.State.{Net}
 use Rattle.protocol.specs.Change.{at, setClock, publish, receive}
 use Rattle.protocol.specs.Past.{_∈_}
+use Rattle.protocol.proofs.Shelf.{in-shelve, shelve-old, shelve-new}
 use Rattle.protocol.proofs.Invariant.{Ascending, ascending-up, ascending-snoc, ascending-still, home, Bound, NetInv, Later}
 
 -- ---- places
@@ -77,7 +78,7 @@ module _ (N : Net) (W : List Rec) (m p : ℕ) (x : Msg) (I : NetInv N W) (site :
 
   grown-store : (r : Rec) (j q : ℕ) → r ∈ N .store j q → r ∈ publish N m p x .store j q
   unfolding publish
-  grown-store r j q h = cond-elim (λ l. r ∈ l) (at m p j q) (λ t. Memᴰ·append-left (recordsIn x) h) (λ t. h)
+  grown-store r j q h = cond-elim (λ l. r ∈ l) (at m p j q) (λ t. shelve-old (N .setting) (N .store j q) (recordsIn x) r h) (λ t. h)
 
   grown-chan : (y : Msg) (i j q : ℕ) → y ∈ N .chan i j q → y ∈ publish N m p x .chan i j q
   unfolding publish
@@ -92,7 +93,7 @@ module _ (N : Net) (W : List Rec) (m p : ℕ) (x : Msg) (I : NetInv N W) (site :
       q = home N r
 
       store : j ≡ m → r ∈ publish N m p x .store j q
-      store e = cond-elim (λ l. r ∈ l) (at m p j q) (λ t. Memᴰ·append-right (N .store j q) n) (λ t. absurd (T-not (at m p j q) (yes-at m p j q e (news r n .2)) t))
+      store e = cond-elim (λ l. r ∈ l) (at m p j q) (λ t. shelve-new (N .setting) (N .store j q) (recordsIn x) r n) (λ t. absurd (T-not (at m p j q) (yes-at m p j q e (news r n .2)) t))
 
       sends : Bool
       sends = at m p (r .id .source) q && (ltb j (N .setting .sites) && not (eqb j m))
@@ -150,7 +151,7 @@ module _ (N : Net) (W : List Rec) (m p : ℕ) (x : Msg) (I : NetInv N W) (site :
     own = λ r w. own r (List·Memᴰ·append-cases (recordsIn x) w);
     bound = λ r w j l. bound r j l (List·Memᴰ·append-cases (recordsIn x) w);
     order = order;
-    known = λ r j q. cond-elim (λ l. r ∈ l → r ∈ recordsIn x ++ W) (at m p j q) (λ t s. known r j q (List·Memᴰ·append-cases (N .store j q) s)) (λ t s. Memᴰ·append-right (recordsIn x) (I .known r j q s));
+    known = λ r j q. cond-elim (λ l. r ∈ l → r ∈ recordsIn x ++ W) (at m p j q) (λ t s. known r j q (in-shelve (N .setting) (N .store j q) (recordsIn x) r s)) (λ t s. Memᴰ·append-right (recordsIn x) (I .known r j q s));
     sent = λ r i j q. cond-elim (λ l. Update r ∈ l → r ∈ recordsIn x ++ W) (at m p i q && (ltb j (N .setting .sites) && not (eqb j m)))
         (λ t s. sent r i j q (List·Memᴰ·append-cases (N .chan i j q) s)) (λ t s. Memᴰ·append-right (recordsIn x) (I .sent r i j q s));
     once = λ r q a b. publish-once r q (List·Memᴰ·append-cases (recordsIn x) a) (List·Memᴰ·append-cases (recordsIn x) b);
@@ -232,7 +233,7 @@ module _ (N : Net) (W : List Rec) (i m p : ℕ) (x : Msg) (xs : List Msg) (I : N
 
   receive-bound : (r : Rec) (j : ℕ) → Bound N j r → Bound (receive N i m p x) j r
   unfolding Bound receive
-  receive-bound r j (inl s) = inl (cond-elim (λ l. r ∈ l) (at m p j (home N r)) (λ t. Memᴰ·append-left (recordsIn x) s) (λ t. s))
+  receive-bound r j (inl s) = inl (cond-elim (λ l. r ∈ l) (at m p j (home N r)) (λ t. shelve-old (N .setting) (N .store j (home N r)) (recordsIn x) r s) (λ t. s))
   receive-bound r j (inr c) = go b (λ t. t) (λ t. t)
     where
       q : ℕ
@@ -243,7 +244,7 @@ module _ (N : Net) (W : List Rec) (i m p : ℕ) (x : Msg) (xs : List Msg) (I : N
 
       stored : T b → r ∈ recordsIn x → r ∈ receive N i m p x .store j q
       stored t n =
-          cond-elim (λ l. r ∈ l) (at m p j q) (λ u. Memᴰ·append-right (N .store j q) n)
+          cond-elim (λ l. r ∈ l) (at m p j q) (λ u. shelve-new (N .setting) (N .store j q) (recordsIn x) r n)
           (λ u. absurd (T-not (at m p j q) (and-yes (at m p j q) (eqb (r .id .source) i) t .0) u))
 
       hit : T b → (Update r ≡ x) ⊎ (Update r ∈ xs) → Bound (receive N i m p x) j r
@@ -264,7 +265,7 @@ module _ (N : Net) (W : List Rec) (i m p : ℕ) (x : Msg) (xs : List Msg) (I : N
     order = λ h j q.
         rw (receive-entry j q h)
         (receive-order (at m p j q && eqb h i) (N .heard j q h) (N .heard h q h) (receive N i m p x .heard h q h) (N .chan h j q) x xs (receive-heard h q h) (front-is h j q) (I .order h j q));
-    known = λ r j q. cond-elim (λ l. r ∈ l → r ∈ W) (at m p j q) (λ t s. known r j q (List·Memᴰ·append-cases (N .store j q) s)) (λ t s. I .known r j q s);
+    known = λ r j q. cond-elim (λ l. r ∈ l → r ∈ W) (at m p j q) (λ t s. known r j q (in-shelve (N .setting) (N .store j q) (recordsIn x) r s)) (λ t s. I .known r j q s);
     sent = λ r h j q. cond-elim (λ l. Update r ∈ l → r ∈ W) (at m p j q && eqb h i) (λ t s. I .sent r h j q (tail-in (N .chan h j q) (Update r) s)) (λ t s. I .sent r h j q s);
     once = I .once;
   }

@@ -13,7 +13,7 @@ use Rattle.codec.proofs.Tests.{cond-elim, yes-eqb}
 use Rattle.vector.specs.Vec.{Vec, width, atMost, larger}
 use Rattle.vector.proofs.Vec.{LeV, le-trans, at-most-le, le-at-most, at-most-but-le, larger-left, larger-right, raised-carried, raised-stamp}
 use Rattle.protocol.specs.Record.{Setting, partOf, Id, Rec, newest, ofKey, fitsPage, raisedBy}
-use Rattle.protocol.specs.State.{Net, Session, noPage, opened}
+use Rattle.protocol.specs.State.{Net, Session, noPage, withVec, withPage}
 use Rattle.protocol.specs.Event.{Answer, shown}
 use Rattle.protocol.specs.Needs.{getReady, readReady}
 use Rattle.protocol.specs.Change.{upd}
@@ -226,8 +226,8 @@ module _ (N : Net) (W : List Rec) (I : NetInv N W) (h : Story) (x : Session) (S 
       (yes-eqb (b .rec .id .key) k f))
 
   pub get-session : (ws : List Write) → ((w : Write) → w ∈ ws → WriteInv W w) → (k : ℕ) → T (not (x .page .isOpen)) → (o : Option Rec) → NewestOf (N .setting) (ofKey k) (storeHere k) o →
-      SessionInv N W (record { past = withPasts ws (shownIn k (shown o)) ++ h .past; page = h .page }) (opened (x .site) (raisedBy (x .vec) o) (x .page))
-  unfolding opened AllBelow
+      SessionInv N W (record { past = withPasts ws (shownIn k (shown o)) ++ h .past; page = h .page }) (withVec x (raisedBy (x .vec) o))
+  unfolding AllBelow
   get-session ws Q k u o n = record {
     here = λ t. S .here open-now;
     past = all-append W v (withPasts ws (shownIn k (shown o))) (h .past)
@@ -241,8 +241,8 @@ module _ (N : Net) (W : List Rec) (I : NetInv N W) (h : Story) (x : Session) (S 
       v = raisedBy (x .vec) o
 
   -- BEGIN
-  pub begin-session : (v : Vec) (ks : List ℕ) → SessionInv N W (record { past = h .past; page = [] }) (opened (x .site) (x .vec) (begun v (x .vec) ks))
-  unfolding opened begun
+  pub begin-session : (v : Vec) (ks : List ℕ) → SessionInv N W (record { past = h .past; page = [] }) (withPage x (begun v (x .vec) ks))
+  unfolding begun
   begin-session v ks = record {
     here = λ t. S .here open-now;
     past = S .past;
@@ -278,10 +278,10 @@ module _ (N : Net) (W : List Rec) (I : NetInv N W) (h : Story) (x : Session) (S 
         search-covers (N .setting) k fit fits-key (storeHere k) o n r s (yes-and (eqb (r .id .key) k) (atMost (r .carried) (x .page .vec)) (yes-eqb (r .id .key) k e) (le-at-most (r .carried) (x .page .vec) c))
 
     abbrev readNow : Session
-    readNow = opened (x .site) (x .vec) (readOn (x .page) k o)
+    readNow = withPage x (readOn (x .page) k o)
 
     read-this : EntryInv N W readNow (record { key = k; says = shown o })
-    unfolding opened readOn
+    unfolding readOn
     read-this = record {
       past = read-past;
       covers = read-covers;
@@ -292,7 +292,7 @@ module _ (N : Net) (W : List Rec) (I : NetInv N W) (h : Story) (x : Session) (S 
     }
 
     read-before : (e : Entry) → EntryInv N W x e → EntryInv N W readNow e
-    unfolding opened readOn below-up
+    unfolding readOn below-up
     read-before e E = record {
       past = E .past;
       covers = E .covers;
@@ -301,7 +301,7 @@ module _ (N : Net) (W : List Rec) (I : NetInv N W) (h : Story) (x : Session) (S 
     }
 
     pub read-session : SessionInv N W (record { past = h .past; page = record { key = k; says = shown o } ∷ h .page }) readNow
-    unfolding opened readOn
+    unfolding readOn
     read-session = record {
       here = λ t. S .here open-now;
       past = S .past;
@@ -324,8 +324,8 @@ module _ (N : Net) (W : List Rec) (I : NetInv N W) (h : Story) (x : Session) (S 
       go r (inr n) = r n
 
   pub end-session : (ws : List Write) → ((w : Write) → w ∈ ws → WriteInv W w) → T (x .page .isOpen) →
-      SessionInv N W (record { past = withPasts ws (shownOn (h .page)) ++ h .past; page = [] }) (opened (x .site) (larger (x .vec) (x .page .gathered)) noPage)
-  unfolding opened noPage
+      SessionInv N W (record { past = withPasts ws (shownOn (h .page)) ++ h .past; page = [] }) (withPage (withVec x (larger (x .vec) (x .page .gathered))) noPage)
+  unfolding noPage
   end-session ws Q t = record {
     here = λ u. S .here open-now;
     past = all-append W v (withPasts ws (shownOn (h .page))) (h .past)

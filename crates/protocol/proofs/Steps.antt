@@ -14,7 +14,7 @@ use Rattle.codec.proofs.Tests.{cond-elim}
 use Rattle.vector.specs.Vec.{Vec, width, zeros, largest, larger, withEntry}
 use Rattle.vector.proofs.Vec.{LeV, le-largest, with-entry-same, with-entry-up}
 use Rattle.protocol.specs.Record.{Setting, partOf, Id, Rec, Msg, Update, Beat, stampIn, recordsIn, newest, ofKey, fitsPage, raisedBy}
-use Rattle.protocol.specs.State.{Net, Session, State, noPage, closed, opened, setup}
+use Rattle.protocol.specs.State.{Net, Session, State, noPage, closed, opened, withVec, withPage, setup}
 use Rattle.protocol.specs.Event.{Event, OPEN, CLOSE, CLOCK, GET, PUT, BEGIN, READ, END, BEAT, DELIVER, Answer, shown}
 use Rattle.protocol.specs.View.{view}
 use Rattle.protocol.specs.Needs.{putReady, beatSends, ranges, needs}
@@ -89,14 +89,14 @@ module _ (S : State) (h : History) (J : Inv S h) (s k q : ℕ) (l : ℤ) (time :
   unfolding recordsIn
   put-later = publish-later (S .net) (J .all) (putter .site) (partOf (S .net .setting) k) (Update put-rec) (J .net) put-site put-above put-news
 
-  put-inv : Inv (apply (SetSession s (opened (putter .site) put-vec (putter .page))) (apply (Publish (putter .site) (partOf (S .net .setting) k) (Update put-rec)) S)) (wrote h s (put-rec .id) q l)
-  unfolding apply publish wrote recordsIn opened written
+  put-inv : Inv (apply (SetSession s (withVec putter put-vec)) (apply (Publish (putter .site) (partOf (S .net .setting) k) (Update put-rec)) S)) (wrote h s (put-rec .id) q l)
+  unfolding apply publish wrote recordsIn written
   put-inv = record {
     all = put-rec ∷ J .all;
     net = publish-inv (S .net) (J .all) (putter .site) (partOf (S .net .setting) k) (Update put-rec) (J .net) put-site put-above put-news;
     writes = λ w m. writes w (List·Memᴰ·cases-cons m);
     told = λ r m. told r (List·Memᴰ·cases-cons m);
-    sessions = set-session (SessionInv put-net (put-rec ∷ J .all)) (h .of) (S .session) s (record { past = put-rec .id ∷ h .of s .past; page = h .of s .page }) (opened (putter .site) put-vec (putter .page))
+    sessions = set-session (SessionInv put-net (put-rec ∷ J .all)) (h .of) (S .session) s (record { past = put-rec .id ∷ h .of s .past; page = h .of s .page }) (withVec putter put-vec)
         (λ i. session-frame (S .net) (J .all) put-net (put-rec ∷ J .all) put-later (h .of i) (S .session i) (J .sessions i))
         (record {
           here = λ t. put-site;
@@ -161,7 +161,7 @@ shown-served (some r) = tt
 serve-inv : (S : State) (h : History) → Inv S h → (e : Event) → Met (ranges (S .net .setting) e) → Met (needs (view S e) e) →
     Inv (applyAll (serve (view S e) e .changes) S) (note h e (serve (view S e) e .says))
 unfolding serve needs ranges applyAll note noteServed served written
-serve-inv S h J (OPEN s m) r t = session-inv S h J s [] [] (opened m zeros noPage)
+serve-inv S h J (OPEN s m) r t = session-inv S h J s [] [] (opened m)
     (unfold opened noPage in record { here = λ u. ltb-yes (r .0); past = all-nil (J .all) zeros; page = λ f. absurd f; blank = λ f. refl })
 serve-inv S h J (CLOSE s) r t = session-inv S h J s [] [] closed
     (unfold closed noPage in record { here = λ f. absurd f; past = all-nil (J .all) zeros; page = λ f. absurd f; blank = λ f. refl })
@@ -171,7 +171,7 @@ serve-inv S h J (GET s k) r t =
     let x = S .session s in
     let l = N .store (x .site) (partOf (N .setting) k) in
     let o = newest (N .setting) (ofKey k) l in
-    let y = opened (x .site) (raisedBy (x .vec) o) (x .page) in
+    let y = withVec x (raisedBy (x .vec) o) in
     note-served (Inv (apply (SetSession s y) S)) h (GET s k) (shown o) (shown-served o)
     (session-inv S h J s (withPasts (h .writes) (shownIn k (shown o)) ++ h .of s .past) (h .of s .page) y
     (get-session N (J .all) (J .net) (h .of s) x (J .sessions s) (t .0) (h .writes) (J .writes) k (t .1 .0) o (newest-is (N .setting) (ofKey k) l)))
@@ -184,20 +184,20 @@ serve-inv S h J (PUT s k q l) r t =
 serve-inv S h J (BEGIN s p ks) r t =
     let x = S .session s in
     let v = S .net .heard (x .site) p in
-    session-inv S h J s (h .of s .past) [] (opened (x .site) (x .vec) (begun v (x .vec) ks))
+    session-inv S h J s (h .of s .past) [] (withPage x (begun v (x .vec) ks))
     (begin-session (S .net) (J .all) (J .net) (h .of s) x (J .sessions s) (t .0) v ks)
 serve-inv S h J (READ s k) r t =
     let N = S .net in
     let x = S .session s in
     let l = N .store (x .site) (partOf (N .setting) k) in
     let o = newest (N .setting) (fitsPage k (x .page .vec)) l in
-    let y = opened (x .site) (x .vec) (readOn (x .page) k o) in
+    let y = withPage x (readOn (x .page) k o) in
     note-served (Inv (apply (SetSession s y) S)) h (READ s k) (shown o) (shown-served o)
     (session-inv S h J s (h .of s .past) (record { key = k; says = shown o } ∷ h .of s .page) y
     (read-session N (J .all) (J .net) (h .of s) x (J .sessions s) (t .0) k (t .1 .1 .1 .0) (t .1 .0) o (newest-is (N .setting) (fitsPage k (x .page .vec)) l)))
 serve-inv S h J (END s) r t =
     let x = S .session s in
-    session-inv S h J s (withPasts (h .writes) (shownOn (h .of s .page)) ++ h .of s .past) [] (opened (x .site) (larger (x .vec) (x .page .gathered)) noPage)
+    session-inv S h J s (withPasts (h .writes) (shownOn (h .of s .page)) ++ h .of s .past) [] (withPage (withVec x (larger (x .vec) (x .page .gathered))) noPage)
     (end-session (S .net) (J .all) (J .net) (h .of s) x (J .sessions s) (t .0) (h .writes) (J .writes) (t .1 .0))
 serve-inv S h J (BEAT m p) r t = cond-elim (λ cs. Inv (applyAll cs S) h) (beatSends (S .net .heard m p m) (S .net .clock m p))
     (λ u. beat-inv S h J m p (S .net .clock m p) (ltb-yes (r .0)) (unfold beatSends in ltb-yes u)) (λ u. J)

@@ -9,7 +9,7 @@ use lib.Dec.{leb, ltb}
 use lib.IntN.{pos}
 use Rattle.vector.specs.Vec.{Vec, largest, withEntry, atLeast}
 use Rattle.protocol.specs.Record.{Setting, partOf, Id, Rec, Update, newest, ofKey, fitsPage, raisedBy}
-use Rattle.protocol.specs.State.{Session, State, opened, setup}
+use Rattle.protocol.specs.State.{Session, State, withVec, withPage, setup}
 use Rattle.protocol.specs.Event.{Event, OPEN, CLOSE, CLOCK, GET, PUT, BEGIN, READ, END, BEAT, DELIVER, Answer, Stamped, Value, Nothing, shown}
 use Rattle.protocol.specs.View.{View, view}
 use Rattle.protocol.specs.Needs.{_else_, ranges, putReady, storeRoom, sendRoom, needs}
@@ -41,7 +41,7 @@ decideBy R v (CLOCK m p t) = decide v (CLOCK m p t)
 decideBy R v (GET s k) =
     let x = v .session in
     let o = newest (v .setting) (ofKey k) (v .store (partOf (v .setting) k)) in
-    judge (ranges (v .setting) (GET s k)) (judge (needs v (GET s k)) (shown o and SetSession s (opened (x .site) (R .raises (x .vec) o) (x .page)) ∷ []))
+    judge (ranges (v .setting) (GET s k)) (judge (needs v (GET s k)) (shown o and SetSession s (withVec x (R .raises (x .vec) o)) ∷ []))
 decideBy R v (PUT s k q l) =
     let x = v .session in
     let p = partOf (v .setting) k in
@@ -50,12 +50,12 @@ decideBy R v (PUT s k q l) =
     (judge (x .isOpen else 12 ∷ not (x .page .isOpen) else 14 ∷ storeRoom (v .store p) else 22 ∷ sendRoom v (x .site) p else 21 ∷ R .ready (x .vec) (v .heard p (x .site)) t else 3 ∷ [])
     (Stamped (x .site) t and
     Publish (x .site) p (Update (carrying (written x k q l t) (R .carries x t))) ∷
-    SetSession s (opened (x .site) (withEntry (x .vec) (x .site) t) (x .page)) ∷ []))
+    SetSession s (withVec x (withEntry (x .vec) (x .site) t)) ∷ []))
 decideBy R v (BEGIN s p ks) = decide v (BEGIN s p ks)
 decideBy R v (READ s k) =
     let x = v .session in
     let o = newest (v .setting) (R .fits k (x .page .vec)) (v .store (partOf (v .setting) k)) in
-    judge (ranges (v .setting) (READ s k)) (judge (needs v (READ s k)) (shown o and SetSession s (opened (x .site) (x .vec) (readOn (x .page) k o)) ∷ []))
+    judge (ranges (v .setting) (READ s k)) (judge (needs v (READ s k)) (shown o and SetSession s (withPage x (readOn (x .page) k o)) ∷ []))
 decideBy R v (END s) = decide v (END s)
 decideBy R v (BEAT m p) = decide v (BEAT m p)
 decideBy R v (DELIVER i m p) = decide v (DELIVER i m p)

@@ -7,7 +7,7 @@ use lib.Dec.{eqb}
 use lib.IntN.{ℤ}
 use Rattle.vector.specs.Vec.{Vec, zeros, larger, withEntry}
 use Rattle.protocol.specs.Record.{partOf, Rec, Msg, Update, Beat, newest, ofKey, fitsPage, raisedBy}
-use Rattle.protocol.specs.State.{Mark, Page, Session, noPage, closed, opened}
+use Rattle.protocol.specs.State.{Mark, Page, Session, noPage, closed, opened, withVec, withPage}
 use Rattle.protocol.specs.Event.{Event, OPEN, CLOSE, CLOCK, GET, PUT, BEGIN, READ, END, BEAT, DELIVER, Answer, Done, Stamped, shown}
 use Rattle.protocol.specs.View.{View}
 use Rattle.protocol.specs.Needs.{beatSends}
@@ -45,29 +45,29 @@ taken i m p [] = []
 taken i m p (x ∷ l) = Receive i m p x ∷ []
 
 unfoldable pub serve : View → Event → Outcome
-serve v (OPEN s m) = Done and SetSession s (opened m zeros noPage) ∷ []
+serve v (OPEN s m) = Done and SetSession s (opened m) ∷ []
 serve v (CLOSE s) = Done and SetSession s closed ∷ []
 serve v (CLOCK m p t) = Done and SetClock m p t ∷ []
 serve v (GET s k) =
     let x = v .session in
     let o = newest (v .setting) (ofKey k) (v .store (partOf (v .setting) k)) in
-    shown o and SetSession s (opened (x .site) (raisedBy (x .vec) o) (x .page)) ∷ []
+    shown o and SetSession s (withVec x (raisedBy (x .vec) o)) ∷ []
 serve v (PUT s k q l) =
     let x = v .session in
     let p = partOf (v .setting) k in
     let t = v .clock p in
     Stamped (x .site) t and
     Publish (x .site) p (Update (written x k q l t)) ∷
-    SetSession s (opened (x .site) (withEntry (x .vec) (x .site) t) (x .page)) ∷ []
+    SetSession s (withVec x (withEntry (x .vec) (x .site) t)) ∷ []
 serve v (BEGIN s p ks) =
     let x = v .session in
-    Done and SetSession s (opened (x .site) (x .vec) (begun (v .heard p) (x .vec) ks)) ∷ []
+    Done and SetSession s (withPage x (begun (v .heard p) (x .vec) ks)) ∷ []
 serve v (READ s k) =
     let x = v .session in
     let o = newest (v .setting) (fitsPage k (x .page .vec)) (v .store (partOf (v .setting) k)) in
-    shown o and SetSession s (opened (x .site) (x .vec) (readOn (x .page) k o)) ∷ []
+    shown o and SetSession s (withPage x (readOn (x .page) k o)) ∷ []
 serve v (END s) =
     let x = v .session in
-    Done and SetSession s (opened (x .site) (larger (x .vec) (x .page .gathered)) noPage) ∷ []
+    Done and SetSession s (withPage (withVec x (larger (x .vec) (x .page .gathered))) noPage) ∷ []
 serve v (BEAT m p) = Done and cond (beatSends (v .heard p m) (v .clock p)) (Publish m p (Beat (v .clock p)) ∷ []) []
 serve v (DELIVER i m p) = Done and taken i m p (v .front)

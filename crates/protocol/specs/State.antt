@@ -42,9 +42,16 @@ noPage = record { isOpen = false; vec = zeros; marks = []; gathered = zeros }
 unfoldable pub closed : Session
 closed = record { isOpen = false; site = 0; vec = zeros; page = noPage }
 
--- an open session of site m
-unfoldable pub opened : (m : ℕ) (v : Vec) (g : Page) → Session
-opened m v g = record { isOpen = true; site = m; vec = v; page = g }
+-- a session of site m as it is opened
+unfoldable pub opened : (m : ℕ) → Session
+opened m = record { isOpen = true; site = m; vec = zeros; page = noPage }
+
+-- x with another vector, and with another page
+abbrev pub withVec : Session → Vec → Session
+withVec x v = record { isOpen = x .isOpen; site = x .site; vec = v; page = x .page }
+
+abbrev pub withPage : Session → Page → Session
+withPage x g = record { isOpen = x .isOpen; site = x .site; vec = x .vec; page = g }
 
 -- "makes everything empty with clocks and vectors 0"
 unfoldable pub setup : Setting → State

@@ -13,6 +13,7 @@ use Rattle.codec.specs.Part.{Keeps}
 use Rattle.codec.proofs.Tests.{cond-no, cond-both}
 use Rattle.vector.specs.Vec.{withEntry, atLeast}
 use Rattle.protocol.specs.Record.{Msg, stampIn, recordsIn}
+use Rattle.protocol.specs.Shelf.{shelve}
 use Rattle.protocol.specs.State.{Session, State}
 use Rattle.protocol.specs.Change.{Change, SetSession, SetClock, Publish, Receive, upd, at, setClock, publish, receive, apply, applyAll}
 use Rattle.parts.specs.Node.{clockIn, heardIn, storeIn, clockSet, published, received}
@@ -220,7 +221,7 @@ module _ (m p : ℕ) (x : Msg) (t : List ℕ) (l : length t ≡ tableLength) (fi
       T-not (isWay i j) (yes-way i j (omega (arith, fit .sites)) (λ e. all .3 (omega arith))) w)
 
   decode-publish : decode (putChange (Publish m p x) t) ≡ apply (Publish m p x) (decode t)
-  unfolding decode apply publish settingIn putChange
+  unfolding decode apply publish shelve settingIn putChange
   decode-publish =
       let u = putChange (Publish m p x) t in
       let n = nodeOf (siteOf t m) p in
@@ -289,7 +290,7 @@ module _ (i m p : ℕ) (x : Msg) (t : List ℕ) (l : length t ≡ tableLength) (
       (bytes-channelOf t (fit .bytes) h q e)
 
   decode-receive : decode (putChange (Receive i m p x) t) ≡ apply (Receive i m p x) (decode t)
-  unfolding decode apply receive
+  unfolding decode apply receive shelve
   decode-receive =
       let u = putChange (Receive i m p x) t in
       let n = nodeOf (siteOf t m) p in

@@ -5,7 +5,7 @@ use borrow.Author.Tests.{not-true, not-false}
 use borrow.Author.Needs.{needs}
 use Rattle.protocol.specs.Event.{BEGIN}
 use Rattle.protocol.specs.Serve.{begun}
-use Rattle.protocol.proofs.Ladders.{beginOf}
+use Rattle.protocol.proofs.Ladders.{if-no-page, beginOf}
 use Rattle.parts.specs.Meaning.{asSession}
 use Rattle.table.specs.Decode.{decode}
 use Rattle.outcome.specs.Marks.{keysOn}
@@ -64,12 +64,9 @@ returns-3 c =
 
 heard-requires : tie.Need-heard-requires
 heard-requires c κs =
-    let e = c .before .before .before .before in
+    let e = c .before .before .before in
     let k = e .before .before in
     (k .before .before .pre .0, k .session .ensures .2 (is-open e), k .before .before .pre .3)
-
-larger-of-requires : tie.Need-larger-of-requires
-larger-of-requires c κs = search needs
 
 begun-requires : tie.Need-begun-requires
 begun-requires c κs = search needs
@@ -78,13 +75,13 @@ kept-requires : tie.Need-kept-requires
 kept-requires c κs = search needs
 
 returns-4 : tie.Need-returns-4
-unfolding asSession begun
+unfolding asSession
 returns-4 c =
     let w = c .before in
-    let e3 = w .before .before .before .before in
+    let e3 = w .before .before in
     let u = e3 .before in
     let e2 = u .before in
-    c .kept .ensures ∙ sym (says (e2 .before .before .before) ∙ rw (w .begun .ensures, w .before .larger-of .ensures, w .before .before .heard .ensures, is-open (e2 .before), e2 .if2 .left, sym (u .distinct .ensures), not-false (u .distinct .result) (e3 .if3 .left)))
+    c .kept .ensures ∙ sym (says (e2 .before .before .before) ∙ if-no-page (asSession (e2 .before .before .before .session .result)) (is-open (e2 .before)) (e2 .if2 .left) ∙ rw (w .begun .ensures, w .before .heard .ensures, sym (u .distinct .ensures), not-false (u .distinct .result) (e3 .if3 .left)))
 
 pub begin-spec : {M : Type 1} → statement M
 begin-spec =
@@ -99,7 +96,6 @@ begin-spec =
     refused-requires-3
     returns-3
     heard-requires
-    larger-of-requires
     begun-requires
     kept-requires
     returns-4)

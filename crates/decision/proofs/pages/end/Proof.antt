@@ -6,9 +6,9 @@ use borrow.Author.Needs.{needs}
 use Rattle.vector.specs.Vec.{larger}
 use Rattle.vector.specs.Entries.{entry}
 use Rattle.vector.proofs.Vec.{raised-plain}
-use Rattle.protocol.specs.State.{Session, noPage, opened}
+use Rattle.protocol.specs.State.{Session, noPage, withVec, withPage}
 use Rattle.protocol.specs.Event.{END}
-use Rattle.protocol.proofs.Ladders.{endOf}
+use Rattle.protocol.proofs.Ladders.{if-page, endOf}
 use Rattle.parts.specs.Meaning.{asSession}
 use Rattle.table.specs.Decode.{decode}
 use Rattle.decision.specs.Answered.{answered}
@@ -37,12 +37,12 @@ loaded c = c .before .before .before .before .before .before .before .before .be
 
 -- without its page, and raised by what that gathered
 raised : (w : tie.After-ended) → let x = loaded (w .before .before) .session .result in
-    asSession (w .ended .result) ≡ opened (x .site) (larger (entry (x .vec .e)) (entry (x .gathered .e))) noPage
+    asSession (w .ended .result) ≡ withPage (withVec (asSession x) (larger (entry (x .vec .e)) (entry (x .gathered .e)))) noPage
 unfolding asSession loaded
 raised w =
     let x = loaded (w .before .before) .session .result in
     w .ended .ensures
-    ∙ ap (λ (y : Session). opened (y .site) (y .vec) noPage) (w .before .lent .ensures)
+    ∙ ap (λ (y : Session). withPage y noPage) (w .before .lent .ensures)
     ∙ rw (raised-plain (entry (x .vec .e)) (entry (x .gathered .e)) (x .site))
 
 -- ---- the needs
@@ -107,7 +107,7 @@ returns-4 c =
     let e2 = u .before .before .before in
     let e = e2 .before .before in
     let k = e .before .before in
-    c .kept .ensures ∙ sym (says k ∙ rw (is-open e, is-paged e2, sym (u .all-read .ensures (k .session .result .keys)), not-false (u .all-read .result) (e3 .if3 .left), raised w))
+    c .kept .ensures ∙ sym (says k ∙ if-page (asSession (k .session .result)) (is-open e) (is-paged e2) ∙ rw (sym (u .all-read .ensures (k .session .result .keys)), not-false (u .all-read .result) (e3 .if3 .left), raised w))
 
 pub end-spec : {M : Type 1} → statement M
 end-spec =

@@ -7,8 +7,7 @@ use Rattle.vector.specs.Entries.{entry}
 use Rattle.protocol.specs.Record.{newest, fitsPage}
 use Rattle.protocol.specs.Event.{READ}
 use Rattle.protocol.specs.Needs.{readReady}
-use Rattle.protocol.specs.Serve.{readOn}
-use Rattle.protocol.proofs.Ladders.{readOf}
+use Rattle.protocol.proofs.Ladders.{if-page, readOf}
 use Rattle.parts.specs.Meaning.{asSession}
 use Rattle.search.specs.Found.{foundOf}
 use Rattle.search.proofs.Fit.{fits-page}
@@ -128,34 +127,27 @@ newest-requires c κs =
     let k = e .before .before in
     (k .before .before .pre .0, k .before .before .pre .1, k .session .ensures .2 (is-open e), h .before .partition .ensures .1)
 
-raised-by-requires : tie.Need-raised-by-requires
-raised-by-requires c κs = search needs
-
-read-requires : tie.Need-read-requires
-read-requires c κs = unfold loaded in loaded (c .before .before .before .before .before .before .before) .session .ensures .1
-
 shown-requires : tie.Need-shown-requires
 shown-requires c κs = search needs
 
 read-on-requires : tie.Need-read-on-requires
-read-on-requires c κs = search needs
+read-on-requires c κs = unfold loaded in (loaded (c .before .before .before .before .before .before) .session .ensures .1, c .before .newest .ensures .1)
 
 kept-requires : tie.Need-kept-requires
 kept-requires c κs = search needs
 
 returns-5 : tie.Need-returns-5
-unfolding asSession readOn loaded
+unfolding asSession loaded
 returns-5 c =
     let w = c .before in
-    let d = w .before .before in
-    let n = d .before .before .before in
+    let n = w .before .before in
     let e4 = n .before in
     let r = e4 .before in
     let e3 = r .before .before .before .before in
     let u = e3 .before in
     let e2 = u .before .before .before .before in
     let e = e2 .before .before in
-    c .kept .ensures ∙ sym (says (e .before .before) ∙ rw (is-open e, is-paged e2, sym (u .awaited .ensures), not-false (u .awaited .result) (e3 .if3 .left), sym (ready r), not-false (r .at-most .result) (e4 .if4 .left), w .read-on .ensures, w .before .shown .ensures, d .read .ensures, d .before .raised-by .ensures, shows n))
+    c .kept .ensures ∙ sym (says (e .before .before) ∙ if-page (asSession (e .before .before .session .result)) (is-open e) (is-paged e2) ∙ rw (w .read-on .ensures, sym (u .awaited .ensures), not-false (u .awaited .result) (e3 .if3 .left), sym (ready r), not-false (r .at-most .result) (e4 .if4 .left), w .before .shown .ensures, shows n))
 
 pub read-spec : {M : Type 1} → statement M
 read-spec =
@@ -176,8 +168,6 @@ read-spec =
     refused-requires-4
     returns-4
     newest-requires
-    raised-by-requires
-    read-requires
     shown-requires
     read-on-requires
     kept-requires

@@ -7,7 +7,7 @@ use Rattle.vector.specs.Entries.{entry}
 use Rattle.protocol.specs.Record.{newest, ofKey}
 use Rattle.protocol.specs.Event.{GET}
 use Rattle.protocol.specs.Needs.{getReady}
-use Rattle.protocol.proofs.Ladders.{getOf}
+use Rattle.protocol.proofs.Ladders.{if-no-page, getOf}
 use Rattle.parts.specs.Meaning.{asSession}
 use Rattle.search.specs.Found.{foundOf}
 use Rattle.search.proofs.Fit.{fits-get}
@@ -109,9 +109,7 @@ shown-requires : tie.Need-shown-requires
 shown-requires c κs = search needs
 
 raised-by-requires : tie.Need-raised-by-requires
-raised-by-requires c κs =
-    let n = c .before in
-    (is-open (n .before .before .before .before .before .before .before), n .newest .ensures .1)
+raised-by-requires c κs = c .before .newest .ensures .1
 
 kept-requires : tie.Need-kept-requires
 kept-requires c κs = search needs
@@ -124,7 +122,7 @@ returns-4 c =
     let u = n .before .before in
     let e2 = u .before .before .before .before in
     let k = e2 .before .before .before in
-    c .kept .ensures ∙ sym (says k ∙ rw (is-open (e2 .before), w .raised-by .ensures, e2 .if2 .left, sym (ready u), not-false (u .at-most-but .result) (n .before .if3 .left), w .before .shown .ensures, shows n))
+    c .kept .ensures ∙ sym (says k ∙ if-no-page (asSession (k .session .result)) (is-open (e2 .before)) (e2 .if2 .left) ∙ rw (w .raised-by .ensures, sym (ready u), not-false (u .at-most-but .result) (n .before .if3 .left), w .before .shown .ensures, shows n))
 
 pub get-spec : {M : Type 1} → statement M
 get-spec =

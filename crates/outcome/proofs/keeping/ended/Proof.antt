@@ -1,20 +1,17 @@
--- `outcome::keeping::ended` meets its contract: a session that was opened, but for its vector. Assumes nothing.
+-- `outcome::keeping::ended` meets its contract: a closed session's page.
 use mathlib.Core.Path.{ap}
 use borrow.Author.Needs.{needs}
-use Rattle.vector.specs.Entries.{entry}
-use Rattle.protocol.specs.State.{Session, opened}
+use Rattle.protocol.specs.State.{Session, closed, withPage}
 use Rattle.parts.specs.Meaning.{asSession}
 use Rattle.outcome.proofs.keeping.ended.Statement.{statement}
 use Rattle.outcome.proofs.keeping.ended.Tie as tie
 
-opened-requires : tie.Need-opened-requires
-opened-requires c κs = search needs
+closed-requires : tie.Need-closed-requires
+closed-requires c κs = search needs
 
 returns : tie.Need-returns
-unfolding asSession opened
-returns c =
-    let x = c .before .before .args .x in
-    ap (λ (y : Session). record { isOpen = y .isOpen; site = y .site; vec = entry (x .vec .e); page = y .page }) (c .before .opened .ensures)
+unfolding asSession closed
+returns c = ap (λ (y : Session). withPage (asSession (c .before .before .args .x)) (y .page)) (c .closed .ensures)
 
 pub ended-spec : {M : Type 1} → statement M
-ended-spec = tie.close (tie.spec opened-requires returns)
+ended-spec = tie.close (tie.spec closed-requires returns)

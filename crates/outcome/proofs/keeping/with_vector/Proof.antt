@@ -1,12 +1,11 @@
 -- `outcome::keeping::with_vector` meets its contract. Assumes nothing.
 use mathlib.Core.Path.{refl}
-use Rattle.protocol.specs.State.{opened}
 use Rattle.parts.specs.Meaning.{asSession}
 use Rattle.outcome.proofs.keeping.with_vector.Statement.{statement}
 use Rattle.outcome.proofs.keeping.with_vector.Tie as tie
 
 returns : tie.Need-returns
-unfolding asSession opened
+unfolding asSession
 returns c = refl
 
 pub with-vector-spec : {M : Type 1} → statement M

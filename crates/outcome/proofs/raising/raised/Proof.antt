@@ -1,7 +1,7 @@
 -- `outcome::raising::raised` meets its contract: the session says the same but for its vector. Assumes nothing.
 use mathlib.Core.Path.{ap}
 use borrow.Author.Needs.{needs}
-use Rattle.vector.specs.Vec.{Vec}
+use Rattle.protocol.specs.State.{withVec}
 use Rattle.parts.specs.Meaning.{asSession}
 use Rattle.outcome.proofs.raising.raised.Statement.{statement}
 use Rattle.outcome.proofs.raising.raised.Tie as tie
@@ -11,9 +11,7 @@ raised-requires c κs = search needs
 
 returns : tie.Need-returns
 unfolding asSession
-returns c =
-    let x = asSession (c .before .before .args .x) in
-    ap (λ (v : Vec). record { isOpen = x .isOpen; site = x .site; vec = v; page = x .page }) (c .raised .ensures)
+returns c = ap (withVec (asSession (c .before .before .args .x))) (c .raised .ensures)
 
 pub raised-spec : {M : Type 1} → statement M
 raised-spec = tie.close (tie.spec raised-requires returns)
