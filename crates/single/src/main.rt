@@ -5,9 +5,10 @@ use libc::STDOUT_FILENO;
 use protocol::Answer;
 
 fn show(a: Answer) {
-    io::print_decimal(STDOUT_FILENO, protocol::number_of(a) as u64);
+    let v = protocol::values_of(a);
+    io::print_decimal(STDOUT_FILENO, v.number as u64);
     io::write_all(STDOUT_FILENO, b" ");
-    io::print_decimal(STDOUT_FILENO, protocol::stamp_of(a));
+    io::print_decimal(STDOUT_FILENO, v.stamp);
     io::write_all(STDOUT_FILENO, b"\n");
 }
 
