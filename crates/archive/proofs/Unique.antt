@@ -3,9 +3,9 @@ use Prim.Native.Nat.{ℕ}
 use mathlib.Core.Path.{_≡_, sym, ap, _∙_}
 use mathlib.Core.List.{List}
 use Rattle.protocol.specs.declared.Answer.{Answer}
+use Rattle.protocol.specs.declared.Values.{Values}
 use Rattle.steps.specs.Step.{Called, gives}
 use Rattle.steps.specs.Run.{ran}
-use Rattle.archive.specs.declared.port.Values.{Values}
 use Rattle.archive.specs.Call.{setupCall, stepCall}
 use Rattle.archive.specs.Run.{piecesOf, runCall}
 use Rattle.archive.specs.Port.{Shown, shows, shown}

@@ -17,7 +17,7 @@ use Rattle.protocol.specs.Change.{Change, at, setClock, publish, receive
 use Rattle.protocol.specs.Serve.{Outcome, _and_, written, taken, serve}
 use Rattle.protocol.specs.Step.{step, next, after}
 use Rattle.protocol.specs.Past.{served}
-use Rattle.protocol.specs.Count.{waiting, puts, delivers, count}
+use Rattle.protocol.specs.Count.{waiting, puts, takenAt, delivers, count}
 use Rattle.protocol.specs.Promises.{Conserved}
 use Rattle.protocol.proofs.Judge.{step-elim}
 use Rattle.protocol.proofs.Setting.{next-setting}
@@ -94,7 +94,7 @@ module _ (i m p : ℕ) (apart : i ≢ m) where
       go false f = refl
 
   serve-balance : (S : State) (e : Event) → m < S .net .setting .sites → Balance S i m p e (serve (view S e) e)
-  unfolding serve apply applyAll setClock puts delivers served written
+  unfolding serve apply applyAll setClock puts delivers takenAt served written
   serve-balance S (OPEN s j) l = refl
   serve-balance S (CLOSE s) l = refl
   serve-balance S (CLOCK j q t) l = refl

@@ -6,6 +6,7 @@ use lib.Dec.{eqb}
 use Rattle.protocol.specs.Record.{partOf, Msg, Update, Beat}
 use Rattle.protocol.specs.State.{Net, State}
 use Rattle.protocol.specs.Event.{Event, OPEN, CLOSE, CLOCK, GET, PUT, BEGIN, READ, END, BEAT, DELIVER, Answer, sourceOf}
+use Rattle.protocol.specs.View.{Place, ofSession, atSite, onChannel, place}
 use Rattle.protocol.specs.Needs.{frontUpdates}
 use Rattle.protocol.specs.Change.{at}
 use Rattle.protocol.specs.Step.{step, next}
@@ -30,18 +31,14 @@ puts i p N (END s) a = false
 puts i p N (BEAT m q) a = false
 puts i p N (DELIVER h m q) a = false
 
--- a DELIVER of an update from site i to node (m, p)
+-- a DELIVER of an update from site i to node (m, p): no other event is on a channel
+unfoldable pub takenAt : (i m p : ℕ) → Net → Place → Bool
+takenAt i m p N (ofSession s) = false
+takenAt i m p N (atSite j) = false
+takenAt i m p N (onChannel h j q) = (at j q m p && eqb i h) && frontUpdates (N .chan h j q)
+
 unfoldable pub delivers : (i m p : ℕ) → Net → Event → Answer → Bool
-delivers i m p N (OPEN s j) a = false
-delivers i m p N (CLOSE s) a = false
-delivers i m p N (CLOCK j q t) a = false
-delivers i m p N (GET s k) a = false
-delivers i m p N (PUT s k q l) a = false
-delivers i m p N (BEGIN s q ks) a = false
-delivers i m p N (READ s k) a = false
-delivers i m p N (END s) a = false
-delivers i m p N (BEAT j q) a = false
-delivers i m p N (DELIVER h j q) a = (at j q m p && eqb i h) && frontUpdates (N .chan h j q)
+delivers i m p N e a = takenAt i m p N (place e)
 
 -- how many of the events are served and of the kind
 unfoldable pub count : (Net → Event → Answer → Bool) → State → List Event → ℕ

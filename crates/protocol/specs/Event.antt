@@ -6,6 +6,7 @@ use lib.IntN.{ℤ, pos}
 use Rattle.protocol.specs.Record.{Rec}
 pub use Rattle.protocol.specs.declared.Refusal.{Refusal}
 pub use Rattle.protocol.specs.declared.Answer.{Answer}
+pub use Rattle.protocol.specs.declared.Values.{Values}
 pub use Rattle.protocol.specs.declared.Answer.the-variants.{Done, Stamped, Value, Nothing, Refused}
 
 -- s session, m site, p partition, t time, k key, q quality, l level, ks page keys, i from
@@ -31,37 +32,27 @@ shown (some r) = Value (r .id .source) (r .quality) (r .level) (r .id .stamp)
 
 -- ---- "The answer is a value: number, source, quality, level, stamp"
 
+abbrev pub five : (number source quality : ℕ) (level : ℤ) (stamp : ℕ) → Values
+five n m q l t = record { number = n; source = m; quality = q; level = l; stamp = t }
+
+abbrev pub valuesOf : Answer → Values
+valuesOf Done = five 0 0 0 (pos 0) 0
+valuesOf (Stamped m t) = five 0 m 0 (pos 0) t
+valuesOf (Value m q l t) = five 1 m q l t
+valuesOf Nothing = five 2 0 0 (pos 0) 0
+valuesOf (Refused w) = five (w .number) (w .source) 0 (pos 0) (w .stamp)
+
 abbrev pub numberOf : Answer → ℕ
-numberOf Done = 0
-numberOf (Stamped m t) = 0
-numberOf (Value m q l t) = 1
-numberOf Nothing = 2
-numberOf (Refused w) = w .number
+numberOf a = valuesOf a .number
 
 abbrev pub sourceOf : Answer → ℕ
-sourceOf Done = 0
-sourceOf (Stamped m t) = m
-sourceOf (Value m q l t) = m
-sourceOf Nothing = 0
-sourceOf (Refused w) = w .source
+sourceOf a = valuesOf a .source
 
 abbrev pub qualityOf : Answer → ℕ
-qualityOf Done = 0
-qualityOf (Stamped m t) = 0
-qualityOf (Value m q l t) = q
-qualityOf Nothing = 0
-qualityOf (Refused w) = 0
+qualityOf a = valuesOf a .quality
 
 abbrev pub levelOf : Answer → ℤ
-levelOf Done = pos 0
-levelOf (Stamped m t) = pos 0
-levelOf (Value m q l t) = l
-levelOf Nothing = pos 0
-levelOf (Refused w) = pos 0
+levelOf a = valuesOf a .level
 
 abbrev pub stampOf : Answer → ℕ
-stampOf Done = 0
-stampOf (Stamped m t) = t
-stampOf (Value m q l t) = t
-stampOf Nothing = 0
-stampOf (Refused w) = w .stamp
+stampOf a = valuesOf a .stamp

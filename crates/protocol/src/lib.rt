@@ -1,7 +1,7 @@
 // Document 01's protocol without bytes: the definitions are in specs/, what is proved of them in proofs/. The code here is the answer, the very
-// type that the definitions use, and the numbers and values that it stands for; `limits` has two of document 01's numbers. It touches nothing.
+// type that the definitions use, and the values that it stands for; `limits` has two of document 01's numbers. It touches nothing.
 ghost use mathlib.Core.Path.{_≡_};
-ghost use Rattle.protocol.specs.Event.{numberOf, sourceOf, qualityOf, levelOf, stampOf};
+ghost use Rattle.protocol.specs.Event.{five, valuesOf};
 
 pub mod limits;
 
@@ -28,96 +28,41 @@ pub enum Answer {
     Refused(Refusal),
 }
 
-pub fn number_of(a: Answer) -> u8
-    ensures { λ r. ⌜ r ≡ numberOf a ⌝ }
+// "The answer is a value: number, source, quality, level, stamp." C and Rust see this struct.
+#[repr(C)]
+pub struct Values {
+    pub number: u8,
+    pub source: u8,
+    pub quality: u8,
+    pub level: i32,
+    pub stamp: u64,
+}
+
+fn five(number: u8, source: u8, quality: u8, level: i32, stamp: u64) -> Values
+    ensures { λ r. ⌜ r ≡ five number source quality level stamp ⌝ }
 {
-    match a {
-        Answer::Done => 0,
-        Answer::Stamped {
-            source: _,
-            stamp: _,
-        } => 0,
-        Answer::Value {
-            source: _,
-            quality: _,
-            level: _,
-            stamp: _,
-        } => 1,
-        Answer::Nothing => 2,
-        Answer::Refused(w) => w.number,
+    Values {
+        number,
+        source,
+        quality,
+        level,
+        stamp,
     }
 }
 
-pub fn source_of(a: Answer) -> u8
-    ensures { λ r. ⌜ r ≡ sourceOf a ⌝ }
+pub fn values_of(a: Answer) -> Values
+    ensures { λ r. ⌜ r ≡ valuesOf a ⌝ }
 {
     match a {
-        Answer::Done => 0,
-        Answer::Stamped { source, stamp: _ } => source,
+        Answer::Done => five(0, 0, 0, 0, 0),
+        Answer::Stamped { source, stamp } => five(0, source, 0, 0, stamp),
         Answer::Value {
             source,
-            quality: _,
-            level: _,
-            stamp: _,
-        } => source,
-        Answer::Nothing => 0,
-        Answer::Refused(w) => w.source,
-    }
-}
-
-pub fn quality_of(a: Answer) -> u8
-    ensures { λ r. ⌜ r ≡ qualityOf a ⌝ }
-{
-    match a {
-        Answer::Value {
-            source: _,
             quality,
-            level: _,
-            stamp: _,
-        } => quality,
-        Answer::Done => 0,
-        Answer::Stamped {
-            source: _,
-            stamp: _,
-        } => 0,
-        Answer::Nothing => 0,
-        Answer::Refused(_) => 0,
-    }
-}
-
-pub fn level_of(a: Answer) -> i32
-    ensures { λ r. ⌜ r ≡ levelOf a ⌝ }
-{
-    match a {
-        Answer::Value {
-            source: _,
-            quality: _,
             level,
-            stamp: _,
-        } => level,
-        Answer::Done => 0,
-        Answer::Stamped {
-            source: _,
-            stamp: _,
-        } => 0,
-        Answer::Nothing => 0,
-        Answer::Refused(_) => 0,
-    }
-}
-
-pub fn stamp_of(a: Answer) -> u64
-    ensures { λ r. ⌜ r ≡ stampOf a ⌝ }
-{
-    match a {
-        Answer::Done => 0,
-        Answer::Stamped { source: _, stamp } => stamp,
-        Answer::Value {
-            source: _,
-            quality: _,
-            level: _,
             stamp,
-        } => stamp,
-        Answer::Nothing => 0,
-        Answer::Refused(w) => w.stamp,
+        } => five(1, source, quality, level, stamp),
+        Answer::Nothing => five(2, 0, 0, 0, 0),
+        Answer::Refused(w) => five(w.number, w.source, 0, 0, w.stamp),
     }
 }

@@ -22,10 +22,11 @@ pub fn store_answer(b: &mut [u8], at: usize, a: Answer)
     requires { ⌜ at + 16 ≤ length (now b) ⌝ }
     ensures { λ _. ⌜ now (b .exit) ≡ putAnswer (now (b .entry)) at a ⌝ }
 {
-    codec::store_u8(b, at, protocol::number_of(a));
-    codec::store_u8(b, at + 1, protocol::source_of(a));
-    codec::store_u8(b, at + 2, protocol::quality_of(a));
+    let v = protocol::values_of(a);
+    codec::store_u8(b, at, v.number);
+    codec::store_u8(b, at + 1, v.source);
+    codec::store_u8(b, at + 2, v.quality);
     codec::store_u8(b, at + 3, 0);
-    codec::store_level(b, at + 4, protocol::level_of(a));
-    codec::store_u64(b, at + 8, protocol::stamp_of(a));
+    codec::store_level(b, at + 4, v.level);
+    codec::store_u64(b, at + 8, v.stamp);
 }

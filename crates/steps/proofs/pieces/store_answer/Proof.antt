@@ -1,4 +1,4 @@
--- `steps::pieces::store_answer` meets its contract: the six stores one after the other. Assumes nothing.
+-- `steps::pieces::store_answer` meets its contract: the six stores one after the other.
 use mathlib.Core.Path.{_∙_}
 use mir.Syntax.{w32}
 use mir.Facts.{toZ-ofZ}
@@ -7,8 +7,8 @@ use Rattle.steps.proofs.pieces.store_answer.Statement.{statement}
 use Rattle.steps.proofs.pieces.store_answer.Tie as tie
 use borrow.Author.Needs.{needs}
 
-number-of-requires : tie.Need-number-of-requires
-number-of-requires c κs = search needs
+values-of-requires : tie.Need-values-of-requires
+values-of-requires c κs = search needs
 
 store-u8-requires : tie.Need-store-u8-requires
 store-u8-requires c κs = search needs
@@ -16,17 +16,11 @@ store-u8-requires c κs = search needs
 add-store-u8 : tie.Need-add-store-u8
 add-store-u8 c = search needs
 
-source-of-requires : tie.Need-source-of-requires
-source-of-requires c κs = search needs
-
 store-u8-requires-2 : tie.Need-store-u8-requires-2
 store-u8-requires-2 c κs = search needs
 
 add-store-u8-2 : tie.Need-add-store-u8-2
 add-store-u8-2 c = search needs
-
-quality-of-requires : tie.Need-quality-of-requires
-quality-of-requires c κs = search needs
 
 store-u8-requires-3 : tie.Need-store-u8-requires-3
 store-u8-requires-3 c κs = search needs
@@ -40,17 +34,11 @@ store-u8-requires-4 c κs = search needs
 add-store-level : tie.Need-add-store-level
 add-store-level c = search needs
 
-level-of-requires : tie.Need-level-of-requires
-level-of-requires c κs = search needs
-
 store-level-requires : tie.Need-store-level-requires
 store-level-requires c κs = search needs
 
 add-store-u64 : tie.Need-add-store-u64
 add-store-u64 c = search needs
-
-stamp-of-requires : tie.Need-stamp-of-requires
-stamp-of-requires c κs = search needs
 
 store-u64-requires : tie.Need-store-u64-requires
 store-u64-requires c κs = search needs
@@ -62,33 +50,29 @@ returns : tie.Need-returns
 unfolding putAnswer
 returns c =
     let f = c .before .before in
-    let e = f .before .before .before .before .before in
+    let e = f .before .before .before .before in
     let d = e .before .before .before .before .before in
     let q = d .before .before .before .before in
-    let b = q .before .before .before .before .before in
-    let a = b .before .before .before .before .before in
+    let b = q .before .before .before .before in
+    let a = b .before .before .before .before in
     f .store-u64 .ensures
-    ∙ rw (f .before .stamp-of .ensures, e .store-level .ensures, toZ-ofZ {w = w32} (record { sfits = e .before .level-of .ok }), e .before .level-of .ensures, d .store-u84 .ensures, q .store-u83 .ensures, q .before .quality-of .ensures, b .store-u82 .ensures, b .before .source-of .ensures, a .store-u8 .ensures, a .before .number-of .ensures)
+    ∙ rw (e .store-level .ensures, toZ-ofZ {w = w32} (record { sfits = e .before .struct-told .given .1 .1 .1 .0 .1 }), d .store-u84 .ensures, q .store-u83 .ensures, b .store-u82 .ensures, a .store-u8 .ensures, a .before .before .values-of .ensures)
 
 pub store-answer-spec : {M : Type 1} → statement M
 store-answer-spec =
     tie.close
     (tie.spec
-    number-of-requires
+    values-of-requires
     store-u8-requires
     add-store-u8
-    source-of-requires
     store-u8-requires-2
     add-store-u8-2
-    quality-of-requires
     store-u8-requires-3
     add-store-u8-3
     store-u8-requires-4
     add-store-level
-    level-of-requires
     store-level-requires
     add-store-u64
-    stamp-of-requires
     store-u64-requires
     same-length
     returns)
