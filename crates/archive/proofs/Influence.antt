@@ -18,6 +18,7 @@ use Rattle.protocol.specs.Serve.{Outcome, taken, serve}
 use Rattle.protocol.specs.Step.{step}
 use Rattle.protocol.specs.Promises.{Alike}
 use Rattle.protocol.proofs.Judge.{Met, step-elim}
+use Rattle.protocol.proofs.Influence.{influenced}
 use Rattle.protocol.proofs.Influence as Protocol
 use Rattle.event.specs.Event.{codeLawful, eventOf}
 use Rattle.event.specs.Fields.{unusedZero}
@@ -31,7 +32,7 @@ use Rattle.lawful.proofs.Fits.{step-fits}
 use Rattle.steps.specs.Step.{Called, gives, need, stepOn}
 use Rattle.archive.specs.Call.{stepCall}
 use Rattle.archive.specs.Story.{isEvent}
-use Rattle.archive.specs.Influence.{RingsAlike, AgreeOn, SameWrites, SameStep, Influenced}
+use Rattle.archive.specs.Influence.{RingsAlike, AgreeOn, SameWrites, SameStep, InfluencedBytes}
 use Rattle.archive.proofs.Writes.{writes-none}
 use Rattle.archive.proofs.Changes.{Seen, SeenAll, twin-changes}
 
@@ -100,7 +101,7 @@ module _ (t u : List ℕ) (l : length t ≡ tableLength) (l′ : length u ≡ ta
       (λ c. same-need t u (unusedZero e) (unusedZero e) 11 _ _ refl
       (λ z. f (yes-and (eqb (length e) 32) (codeLawful e && unusedZero e) (and-yes (eqb (length t) tableLength) (eqb (length e) 32) x .1) (yes-and (codeLawful e) (unusedZero e) c z))))))
 
-pub influenced : Influenced
-influenced t u e l l′ b b′ w w′ q a = same-call t u l l′ b b′ w w′ e (λ i.
+pub influenced-bytes : InfluencedBytes
+influenced-bytes t u e l l′ b b′ w w′ q a = same-call t u l l′ b b′ w w′ e (λ i.
     let agree = a i in
     same-changes t u l l′ b b′ w w′ (eventOf e) (Protocol.influenced (decode t) (decode u) (eventOf e) (agree .0)) (agree-seen t u (formed t w .part) (eventOf e) agree))

@@ -20,7 +20,7 @@ use Rattle.lawful.specs.Values.{settingLawful}
 use Rattle.lawful.specs.WellFormed.{wellFormed}
 use Rattle.steps.specs.Step.{Called, gives, stepOn}
 use Rattle.archive.specs.Call.{stepCall, setupCall}
-use Rattle.archive.specs.Promises.{Untouched, UntouchedSetup}
+use Rattle.archive.specs.Promises.{UntouchedBytes, UntouchedSetup}
 
 abbrev Still : List ℕ → Refusal → Called → Type 0
 Still t w c = c .answer ≡ Refused w → c .table ≡ t
@@ -29,7 +29,7 @@ step-still : (t e : List ℕ) (w : Refusal) → Still t w (gives (step (decode t
 unfolding putChanges
 step-still t e w z = ap (λ cs. putChanges cs t) (refused-still (decode t) (eventOf e) w z)
 
-pub untouched-bytes : Untouched
+pub untouched-bytes : UntouchedBytes
 unfolding stepCall stepOn
 untouched-bytes t e w =
     cond-elim (Still t w) (eqb (length t) tableLength && eqb (length e) 32)

@@ -18,7 +18,6 @@ use Rattle.protocol.specs.Record.{Setting}
 use Rattle.protocol.specs.State.{Net, State, setup}
 use Rattle.protocol.specs.Event.{Event, plain, numberOf}
 use Rattle.protocol.specs.declared.Answer.{Answer}
-use Rattle.protocol.specs.declared.Answer.the-variants.{Refused}
 use Rattle.protocol.specs.Step.{step, next, after, log}
 use Rattle.protocol.specs.Past.{served, history}
 use Rattle.protocol.specs.Causal.{GetCausal}
@@ -42,7 +41,7 @@ use Rattle.steps.proofs.Stepped.{cond-yes, cond-not}
 use Rattle.archive.specs.Call.{stepCall, setupCall}
 use Rattle.archive.specs.Run.{piecesOf, runCall}
 use Rattle.archive.specs.Story.{isEvent, eventsOf, tableAfter, linesOf, countOf}
-use Rattle.archive.specs.Promises.{setUp, Faithful, CausalGet, CausalPage, Conserved, NeverIll, RunIsSteps}
+use Rattle.archive.specs.Promises.{setUp, Faithful, CausalGetBytes, CausalPageBytes, ConservedBytes, NeverIll, RunIsSteps}
 
 -- ---- a test that is known
 
@@ -72,11 +71,11 @@ step-event t e R i =
 -- bytes that are no event are refused before the protocol, and not with 24
 record Turned (t : List ℕ) (c : Called) : Type 0 where
   table : c .table ≡ t
-  number : c .answer ≢ Refused (plain 24)
+  number : numberOf (c .answer) ≢ 24
 
 turned-by : (t : List ℕ) (n : ℕ) → n ≢ 24 → Turned t (refused n t)
 unfolding plain
-turned-by t n d = record { table = refl; number = λ e. d (ap numberOf e) }
+turned-by t n d = record { table = refl; number = d }
 
 step-other : (t e : List ℕ) → Sound t → T (not (isEvent e)) → Turned t (stepCall t e)
 unfolding stepCall stepOn isEvent
@@ -193,8 +192,8 @@ module _ (c : Setting) (l : T (settingLawful c)) (t : List ℕ) (long : length t
 pub faithful : Faithful
 faithful c l t long es = let K = run-told c l t long es in (K .state, K .lines)
 
-pub causal-get : CausalGet
-causal-get c l t long es e s k i g =
+pub causal-get-bytes : CausalGetBytes
+causal-get-bytes c l t long es e s k i g =
     let K = run-told c l t long es in
     let R = run-sound c l t long es in
     subst (λ ls. GetCausal c (history ls) s k (stepCall (tableAfter (setUp c t) es) e .answer)) (sym (K .lines))
@@ -202,10 +201,10 @@ causal-get c l t long es e s k i g =
     (sym (ap (λ r. r .answer) (step-event (tableAfter (setUp c t) es) e R i) ∙ ap (λ S. step S (eventOf e) .says) (K .state) ∙ ap (λ v. step (after (setup c) (eventsOf es)) v .says) g))
     (Protocol.causal-get c (few c l t long) (eventsOf es) s k))
 
-pub causal-page : CausalPage
-causal-page c l t long es s = rw (run-told c l t long es .lines) (Protocol.causal-page c (few c l t long) (eventsOf es) s)
+pub causal-page-bytes : CausalPageBytes
+causal-page-bytes c l t long es s = rw (run-told c l t long es .lines) (Protocol.causal-page c (few c l t long) (eventsOf es) s)
 
-pub conserved-bytes : Conserved
+pub conserved-bytes : ConservedBytes
 conserved-bytes c l t long es i m p d b =
     let K = run-told c l t long es in
     K .counts (puts i p) ∙ conserved c (eventsOf es) i m p d b
@@ -217,7 +216,7 @@ never-ill c l t long es e = go (isEvent e) (λ i. i) (λ i. i)
     R : Sound (tableAfter (setUp c t) es)
     R = run-sound c l t long es
 
-    go : (b : Bool) → (T b → T (isEvent e)) → (T (not b) → T (not (isEvent e))) → stepCall (tableAfter (setUp c t) es) e .answer ≢ Refused (plain 24)
+    go : (b : Bool) → (T b → T (isEvent e)) → (T (not b) → T (not (isEvent e))) → numberOf (stepCall (tableAfter (setUp c t) es) e .answer) ≢ 24
     go true f g = rw (step-event (tableAfter (setUp c t) es) e R (f tt)) (no-24 (decode (tableAfter (setUp c t) es)) (eventOf e))
     go false f g = step-other (tableAfter (setUp c t) es) e R (g tt) .number
 

@@ -1,4 +1,4 @@
--- No second outcome meets the promise of a public function. Assumes nothing.
+-- No second outcome meets the promise of a public function.
 use Prim.Native.Nat.{ℕ}
 use mathlib.Core.Path.{_≡_, sym, ap, _∙_}
 use mathlib.Core.List.{List}
@@ -8,14 +8,14 @@ use Rattle.steps.specs.Step.{Called, gives}
 use Rattle.steps.specs.Run.{ran}
 use Rattle.archive.specs.Call.{setupCall, stepCall}
 use Rattle.archive.specs.Run.{piecesOf, runCall}
-use Rattle.archive.specs.Port.{Shown, shows, shown}
+use Rattle.archive.specs.Port.{Returned}
 
 -- the same answer and the same bytes
 one-call : (c : Called) (a b : Answer) (u v : List ℕ) → gives a u ≡ c → gives b v ≡ c → (a ≡ b) × (u ≡ v)
 one-call c a b u v p q = let e = p ∙ sym q in (ap (λ r. r .answer) e, ap (λ r. r .table) e)
 
-one-shown : (c : Shown) (a b : Values) (u v : List ℕ) → shows a u ≡ c → shows b v ≡ c → (a ≡ b) × (u ≡ v)
-one-shown c a b u v p q = let e = p ∙ sym q in (ap (λ r. r .values) e, ap (λ r. r .table) e)
+one-returned : (c : Called) (a b : Values) (u v : List ℕ) → Returned a u c → Returned b v c → (a ≡ b) × (u ≡ v)
+one-returned c a b u v p q = (p .0 ∙ sym (q .0), p .1 ∙ sym (q .1))
 
 pub setup-unique : (t : List ℕ) (sites parts : ℕ) (a b : Answer) (u v : List ℕ) → gives a u ≡ setupCall t sites parts → gives b v ≡ setupCall t sites parts → (a ≡ b) × (u ≡ v)
 setup-unique t sites parts = one-call (setupCall t sites parts)
@@ -26,8 +26,8 @@ step-unique t e = one-call (stepCall t e)
 pub run-unique : (t es b : List ℕ) (m n : ℕ) (u v x y : List ℕ) → (m ≡ piecesOf es b) × (ran u x ≡ runCall t es b) → (n ≡ piecesOf es b) × (ran v y ≡ runCall t es b) → (m ≡ n) × (u ≡ v) × (x ≡ y)
 run-unique t es b m n u v x y p q = let e = p .1 ∙ sym (q .1) in (p .0 ∙ sym (q .0), ap (λ r. r .table) e, ap (λ r. r .answers) e)
 
-pub port-setup-unique : (t : List ℕ) (sites parts : ℕ) (a b : Values) (u v : List ℕ) → shows a u ≡ shown (setupCall t sites parts) → shows b v ≡ shown (setupCall t sites parts) → (a ≡ b) × (u ≡ v)
-port-setup-unique t sites parts = one-shown (shown (setupCall t sites parts))
+pub port-setup-unique : (t : List ℕ) (sites parts : ℕ) (a b : Values) (u v : List ℕ) → Returned a u (setupCall t sites parts) → Returned b v (setupCall t sites parts) → (a ≡ b) × (u ≡ v)
+port-setup-unique t sites parts = one-returned (setupCall t sites parts)
 
-pub port-step-unique : (t e : List ℕ) (a b : Values) (u v : List ℕ) → shows a u ≡ shown (stepCall t e) → shows b v ≡ shown (stepCall t e) → (a ≡ b) × (u ≡ v)
-port-step-unique t e = one-shown (shown (stepCall t e))
+pub port-step-unique : (t e : List ℕ) (a b : Values) (u v : List ℕ) → Returned a u (stepCall t e) → Returned b v (stepCall t e) → (a ≡ b) × (u ≡ v)
+port-step-unique t e = one-returned (stepCall t e)

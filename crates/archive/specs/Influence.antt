@@ -40,7 +40,7 @@ pub record SameStep (t u : List ℕ) (c d : Called) : Type 0 where
   pub answer : c .answer ≡ d .answer
   pub bytes : SameWrites t (c .table) u (d .table)
 
--- "Among well-formed tables with equal site and partition numbers"; bytes that are no event look at nothing
-abbrev pub Influenced : Type 0
-Influenced = (t u e : List ℕ) → length t ≡ tableLength → length u ≡ tableLength → Bytes t → Bytes u → T (wellFormed t) → T (wellFormed u) →
+-- "Among well-formed tables with equal site and partition numbers"; byte strings that are not events are refused without looking at the table
+abbrev pub InfluencedBytes : Type 0
+InfluencedBytes = (t u e : List ℕ) → length t ≡ tableLength → length u ≡ tableLength → Bytes t → Bytes u → T (wellFormed t) → T (wellFormed u) →
     settingIn t ≡ settingIn u → (T (isEvent e) → AgreeOn t u (place (eventOf e))) → SameStep t u (stepCall t e) (stepCall u e)

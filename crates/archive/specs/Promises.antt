@@ -1,4 +1,4 @@
--- What is promised of every list of event byte strings, of any length and lawful or not, stepped one by one from `setup`. Assumes nothing.
+-- What is promised of every list of event byte strings, of any length and lawful or not, stepped one by one from `setup`.
 use Prim.Native.Nat.{ℕ, _+_, _<_}
 use mathlib.Core.Path.{_≡_}
 use mathlib.Core.Logic.{_≢_}
@@ -7,7 +7,7 @@ use lib.Dec.{T}
 use lib.ListN.{length}
 use Rattle.codec.specs.Tabulate.{tabulate}
 use Rattle.protocol.specs.Record.{Setting}
-use Rattle.protocol.specs.Event.{GET, plain}
+use Rattle.protocol.specs.Event.{GET, numberOf}
 use Rattle.protocol.specs.declared.Refusal.{Refusal}
 use Rattle.protocol.specs.declared.Answer.the-variants.{Refused}
 use Rattle.protocol.specs.State.{setup}
@@ -28,35 +28,38 @@ use Rattle.archive.specs.Story.{isEvent, eventsOf, tableAfter, linesOf, 
 abbrev pub setUp : Setting → List ℕ → List ℕ
 setUp c t = setupCall t (c .sites) (c .parts) .table
 
+-- of every table of the right length that setup made ready for lawful constants, with any list of byte strings to come
+abbrev pub FromSetup : (Setting → (table : List ℕ) → List (List ℕ) → Type 0) → Type 0
+FromSetup P = (c : Setting) → T (settingLawful c) → (t : List ℕ) → length t ≡ tableLength → (es : List (List ℕ)) → P c (setUp c t) es
+
 -- DEMAND 1, of any bytes: where `step` or `setup` refuses or waits, no byte of the table changes
-abbrev pub Untouched : Type 0
-Untouched = (t e : List ℕ) (w : Refusal) → stepCall t e .answer ≡ Refused w → stepCall t e .table ≡ t
+abbrev pub UntouchedBytes : Type 0
+UntouchedBytes = (t e : List ℕ) (w : Refusal) → stepCall t e .answer ≡ Refused w → stepCall t e .table ≡ t
 
 abbrev pub UntouchedSetup : Type 0
 UntouchedSetup = (t : List ℕ) (sites parts : ℕ) (w : Refusal) → setupCall t sites parts .answer ≡ Refused w → setupCall t sites parts .table ≡ t
 
--- DEMAND 2, call after call: the table says the protocol's state, and what `step` answered is what the protocol answers; the byte strings that are no
--- events are refused before it and change nothing
+-- DEMAND 2, call after call: the table says the protocol's state, and what `step` answered is what the protocol answers; byte strings that are not events
+-- are refused before it and change nothing
 abbrev pub Faithful : Type 0
-Faithful = (c : Setting) → T (settingLawful c) → (t : List ℕ) → length t ≡ tableLength → (es : List (List ℕ)) →
-    (decode (tableAfter (setUp c t) es) ≡ after (setup c) (eventsOf es)) × (linesOf (setUp c t) es ≡ log (setup c) (eventsOf es))
+Faithful = FromSetup (λ c t es. (decode (tableAfter t es) ≡ after (setup c) (eventsOf es)) × (linesOf t es ≡ log (setup c) (eventsOf es)))
 
 -- DEMAND 3, of a GET that comes after any event bytes, and of every page as far as it has come
-abbrev pub CausalGet : Type 0
-CausalGet = (c : Setting) → T (settingLawful c) → (t : List ℕ) → length t ≡ tableLength → (es : List (List ℕ)) (e : List ℕ) (s k : ℕ) → T (isEvent e) → eventOf e ≡ GET s k →
-    GetCausal c (history (linesOf (setUp c t) es)) s k (stepCall (tableAfter (setUp c t) es) e .answer)
+abbrev pub CausalGetBytes : Type 0
+CausalGetBytes = FromSetup (λ c t es. (e : List ℕ) (s k : ℕ) → T (isEvent e) → eventOf e ≡ GET s k →
+    GetCausal c (history (linesOf t es)) s k (stepCall (tableAfter t es) e .answer))
 
-abbrev pub CausalPage : Type 0
-CausalPage = (c : Setting) → T (settingLawful c) → (t : List ℕ) → length t ≡ tableLength → (es : List (List ℕ)) (s : ℕ) → PageCausal c (history (linesOf (setUp c t) es)) s
+abbrev pub CausalPageBytes : Type 0
+CausalPageBytes = FromSetup (λ c t es. (s : ℕ) → PageCausal c (history (linesOf t es)) s)
 
 -- CONSERVATION on the channel from site i to site m at partition p
-abbrev pub Conserved : Type 0
-Conserved = (c : Setting) → T (settingLawful c) → (t : List ℕ) → length t ≡ tableLength → (es : List (List ℕ)) (i m p : ℕ) → i ≢ m → m < c .sites →
-    countOf (puts i p) (setUp c t) es ≡ countOf (delivers i m p) (setUp c t) es + waiting (decode (tableAfter (setUp c t) es) .net .chan i m p)
+abbrev pub ConservedBytes : Type 0
+ConservedBytes = FromSetup (λ c t es. (i m p : ℕ) → i ≢ m → m < c .sites →
+    countOf (puts i p) t es ≡ countOf (delivers i m p) t es + waiting (decode (tableAfter t es) .net .chan i m p))
 
 -- a table that setup and steps have led to is never refused with 24
 abbrev pub NeverIll : Type 0
-NeverIll = (c : Setting) → T (settingLawful c) → (t : List ℕ) → length t ≡ tableLength → (es : List (List ℕ)) (e : List ℕ) → stepCall (tableAfter (setUp c t) es) e .answer ≢ Refused (plain 24)
+NeverIll = FromSetup (λ c t es. (e : List ℕ) → numberOf (stepCall (tableAfter t es) e .answer) ≢ 24)
 
 -- RUN leads to the table that `step` leads to with the pieces one by one; so all of the above is said of it too
 abbrev pub RunIsSteps : Type 0

@@ -4,19 +4,19 @@ ghost use Prim.Native.Nat.{ℕ};
 ghost use Rattle.steps.specs.Run.{ran};
 ghost use Rattle.archive.specs.Call.{setupCall, stepCall};
 ghost use Rattle.archive.specs.Run.{piecesOf, runCall};
-ghost use Rattle.archive.specs.Port.{shows, shown};
+ghost use Rattle.archive.specs.Port.{Returned};
 use protocol::Values;
 
 #[no_mangle]
 pub extern "C" fn level_archive_setup(table: &mut [u8], sites: u32, parts: u32) -> Values
-    ensures { λ r. ⌜ shows r (now (table .exit)) ≡ shown (setupCall (now (table .entry)) sites parts) ⌝ }
+    ensures { λ r. ⌜ Returned r (now (table .exit)) (setupCall (now (table .entry)) sites parts) ⌝ }
 {
     protocol::values_of(crate::setup(table, sites, parts))
 }
 
 #[no_mangle]
 pub extern "C" fn level_archive_step(table: &mut [u8], event: &[u8]) -> Values
-    ensures { λ r. ⌜ shows r (now (table .exit)) ≡ shown (stepCall (now (table .entry)) (now (event .entry))) ⌝ }
+    ensures { λ r. ⌜ Returned r (now (table .exit)) (stepCall (now (table .entry)) (now (event .entry))) ⌝ }
 {
     protocol::values_of(crate::step(table, event))
 }

@@ -1,6 +1,6 @@
--- The numbers that stand around the protocol are not its own: no step of it gives 10, 23 or 24. Assumes nothing.
+-- The numbers that stand around the protocol are not its own: no step of it gives 10, 23 or 24.
 use Prim.Native.Nat.{ℕ}
-use mathlib.Core.Path.{_≡_, subst}
+use mathlib.Core.Path.{subst}
 use mathlib.Core.Logic.{_≢_}
 use mathlib.Core.Bool.{Bool, true, not, _&&_, _||_}
 use mathlib.Core.List.{List, [], _∷_}
@@ -9,7 +9,7 @@ use mir.Facts.{and-yes}
 use Rattle.codec.proofs.Tests.{cond-elim}
 use Rattle.protocol.specs.Record.{Setting}
 use Rattle.protocol.specs.State.{State}
-use Rattle.protocol.specs.Event.{Event, OPEN, CLOSE, CLOCK, GET, PUT, BEGIN, READ, END, BEAT, DELIVER, Refusal, Refused, plain, numberOf}
+use Rattle.protocol.specs.Event.{Event, OPEN, CLOSE, CLOCK, GET, PUT, BEGIN, READ, END, BEAT, DELIVER, Answer, Done, Stamped, Value, Nothing, Refused, plain, numberOf}
 use Rattle.protocol.specs.View.{View, view}
 use Rattle.protocol.specs.Needs.{Need, ranges, needs}
 use Rattle.protocol.specs.Serve.{Outcome, serve}
@@ -25,15 +25,24 @@ unfoldable areOwn : List Need → Bool
 areOwn [] = true
 areOwn (n ∷ ns) = not (isAround (n .refusal .number)) && areOwn ns
 
+-- the answer's number is none of them
 abbrev Own : Outcome → Type 0
-Own o = (w : Refusal) → o .says ≡ Refused w → T (not (isAround (w .number)))
+Own o = T (not (isAround (numberOf (o .says))))
 
 judge-own : (ns : List Need) (o : Outcome) → T (areOwn ns) → Own o → Own (judge ns o)
 unfolding judge areOwn
 judge-own [] o t d = d
 judge-own (n ∷ ns) o t d =
     let k = and-yes (not (isAround (n .refusal .number))) (areOwn ns) t in
-    cond-elim Own (n .holds) (λ b. judge-own ns o (k .1) d) (λ b w z. subst (λ a. T (not (isAround (numberOf a)))) z (k .0))
+    cond-elim Own (n .holds) (λ b. judge-own ns o (k .1) d) (λ b. k .0)
+
+served-own : (a : Answer) → (Unserved a → ⊥) → T (not (isAround (numberOf a)))
+unfolding isAround Unserved
+served-own Done u = tt
+served-own (Stamped m t) u = tt
+served-own (Value m q l t) u = tt
+served-own Nothing u = tt
+served-own (Refused w) u = absurd (u tt)
 
 needs-own : (c : Setting) (v : View) (e : Event) → T (areOwn (ranges c e)) × T (areOwn (needs v e))
 unfolding isAround areOwn ranges needs plain
@@ -49,20 +58,20 @@ needs-own c v (BEAT m p) = (tt, tt)
 needs-own c v (DELIVER i m p) = (tt, tt)
 
 step-own : (S : State) (e : Event) → Own (step S e)
-unfolding step decide judged Unserved
+unfolding step decide judged
 step-own S e =
     let v = view S e in
     let o = needs-own (v .setting) v e in
-    judge-own (ranges (v .setting) e) (judged v e) (o .0) (judge-own (needs v e) (serve v e) (o .1) (λ w z. absurd (serve-is-served v e (rw z tt))))
+    judge-own (ranges (v .setting) e) (judged v e) (o .0) (judge-own (needs v e) (serve v e) (o .1) (served-own (serve v e .says) (serve-is-served v e)))
 
-pub no-10 : (S : State) (e : Event) → step S e .says ≢ Refused (plain 10)
-unfolding isAround plain
-no-10 S e z = step-own S e (plain 10) z
+pub no-10 : (S : State) (e : Event) → numberOf (step S e .says) ≢ 10
+unfolding isAround
+no-10 S e z = subst (λ n. T (not (isAround n))) z (step-own S e)
 
-pub no-23 : (S : State) (e : Event) → step S e .says ≢ Refused (plain 23)
-unfolding isAround plain
-no-23 S e z = step-own S e (plain 23) z
+pub no-23 : (S : State) (e : Event) → numberOf (step S e .says) ≢ 23
+unfolding isAround
+no-23 S e z = subst (λ n. T (not (isAround n))) z (step-own S e)
 
-pub no-24 : (S : State) (e : Event) → step S e .says ≢ Refused (plain 24)
-unfolding isAround plain
-no-24 S e z = step-own S e (plain 24) z
+pub no-24 : (S : State) (e : Event) → numberOf (step S e .says) ≢ 24
+unfolding isAround
+no-24 S e z = subst (λ n. T (not (isAround n))) z (step-own S e)
