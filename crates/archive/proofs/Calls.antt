@@ -1,4 +1,4 @@
--- What the public calls give, by the tests of their code. Assumes nothing.
+-- What the public calls give, by the tests of their code.
 use Prim.Native.Nat.{ℕ, zero, suc, _*_}
 use mathlib.Core.Path.{_≡_, refl, ap, _∙_}
 use mathlib.Core.Logic.{_≢_}
@@ -10,6 +10,7 @@ use borrow.Author.Tests.{eq-eqb, ne-eqb}
 use Rattle.codec.specs.Le.{put}
 use Rattle.protocol.specs.declared.Answer.the-variants.{Done}
 use Rattle.table.specs.Put.{fresh}
+use Rattle.table.specs.Parts.{tableLength}
 use Rattle.lawful.specs.Values.{settingLawful}
 use Rattle.lawful.specs.WellFormed.{wellFormed}
 use Rattle.lawful.proofs.Steps.{Sound}
@@ -22,43 +23,43 @@ use Rattle.archive.specs.Call.{stepCall, setupCall}
 -- ---- setup
 
 module _ (t : List ℕ) (sites parts : ℕ) where
-  pub setup-23 : length t ≢ 57344 → setupCall t sites parts ≡ refused 23 t
+  pub setup-23 : length t ≢ tableLength → setupCall t sites parts ≡ refused 23 t
   unfolding setupCall
-  setup-23 d = rw (ne-eqb (length t) 57344 d)
+  setup-23 d = rw (ne-eqb (length t) tableLength d)
 
-  module _ (long : length t ≡ 57344) where
+  module _ (long : length t ≡ tableLength) where
     pub setup-11 : settingLawful (record { sites = sites; parts = parts }) ≡ false → setupCall t sites parts ≡ refused 11 t
     unfolding setupCall
-    setup-11 l = rw (eq-eqb (length t) 57344 long, l)
+    setup-11 l = rw (eq-eqb (length t) tableLength long, l)
 
     pub setup-done : settingLawful (record { sites = sites; parts = parts }) ≡ true → setupCall t sites parts ≡ gives Done (put 1 (put 1 (replicate (length t) 0) 0 sites) 1 parts)
     unfolding setupCall fresh
-    setup-done l = rw (eq-eqb (length t) 57344 long, l, long)
+    setup-done l = rw (eq-eqb (length t) tableLength long, l, long)
 
 -- ---- step
 
 module _ (t e : List ℕ) where
-  pub step-no-table : length t ≢ 57344 → stepCall t e ≡ refused 23 t
+  pub step-no-table : length t ≢ tableLength → stepCall t e ≡ refused 23 t
   unfolding stepCall
-  step-no-table d = rw (ne-eqb (length t) 57344 d)
+  step-no-table d = rw (ne-eqb (length t) tableLength d)
 
-  module _ (long : length t ≡ 57344) where
+  module _ (long : length t ≡ tableLength) where
     pub step-no-event : length e ≢ 32 → stepCall t e ≡ refused 23 t
     unfolding stepCall
-    step-no-event d = rw (eq-eqb (length t) 57344 long, ne-eqb (length e) 32 d)
+    step-no-event d = rw (eq-eqb (length t) tableLength long, ne-eqb (length e) 32 d)
 
     pub step-ill : length e ≡ 32 → wellFormed t ≡ false → stepCall t e ≡ refused 24 t
     unfolding stepCall
-    step-ill l w = rw (eq-eqb (length t) 57344 long, eq-eqb (length e) 32 l, w)
+    step-ill l w = rw (eq-eqb (length t) tableLength long, eq-eqb (length e) 32 l, w)
 
     pub step-formed : length e ≡ 32 → wellFormed t ≡ true → stepCall t e ≡ stepOn t e
     unfolding stepCall
-    step-formed l w = rw (eq-eqb (length t) 57344 long, eq-eqb (length e) 32 l, w)
+    step-formed l w = rw (eq-eqb (length t) tableLength long, eq-eqb (length e) 32 l, w)
 
     -- a piece of any length
     piece-ill : wellFormed t ≡ false → stepCall t e ≡ turnedAway 24 t e
     unfolding stepCall turnedAway
-    piece-ill w = rw (eq-eqb (length t) 57344 long, w) (go (eqb (length e) 32))
+    piece-ill w = rw (eq-eqb (length t) tableLength long, w) (go (eqb (length e) 32))
       where
         go : (b : Bool) → cond b (refused 24 t) (refused 23 t) ≡ refused (cond b 24 23) t
         go true = refl
@@ -66,9 +67,9 @@ module _ (t e : List ℕ) where
 
     piece-formed : wellFormed t ≡ true → stepCall t e ≡ pieceCall t e
     unfolding stepCall pieceCall
-    piece-formed w = rw (eq-eqb (length t) 57344 long, w)
+    piece-formed w = rw (eq-eqb (length t) tableLength long, w)
 
-  piece-no-table : length t ≢ 57344 → stepCall t e ≡ turnedAway 23 t e
+  piece-no-table : length t ≢ tableLength → stepCall t e ≡ turnedAway 23 t e
   unfolding turnedAway
   piece-no-table d = step-no-table d ∙ go (eqb (length e) 32)
     where
@@ -94,14 +95,14 @@ module _ (t es b : List ℕ) (n : ℕ) where
   unfolding turnedAway
   away-runs k same = same-runs stepCall (turnedAway k) (λ u. u ≡ t) (λ u e q. rw q (same e)) (λ u e q. q) t es b refl n .0
 
-  pub run-no-table : length t ≢ 57344 → runBy stepCall n t es b ≡ runBy (turnedAway 23) n t es b
+  pub run-no-table : length t ≢ tableLength → runBy stepCall n t es b ≡ runBy (turnedAway 23) n t es b
   run-no-table d = away-runs 23 (λ e. piece-no-table t e d)
 
-  pub run-ill : length t ≡ 57344 → wellFormed t ≡ false → runBy stepCall n t es b ≡ runBy (turnedAway 24) n t es b
+  pub run-ill : length t ≡ tableLength → wellFormed t ≡ false → runBy stepCall n t es b ≡ runBy (turnedAway 24) n t es b
   run-ill l w = away-runs 24 (λ e. piece-ill t e l w)
 
-  pub run-formed : Sound t → runBy stepCall n t es b ≡ runBy pieceCall n t es b
-  run-formed S = same-runs stepCall pieceCall Sound (λ u e R. piece-formed u e (R .size) (yes-is (wellFormed u) (R .formed))) (λ u e R. piece-keeps u e R) t es b S n .0
+  pub run-formed : Sound tableLength t → runBy stepCall n t es b ≡ runBy pieceCall n t es b
+  run-formed S = same-runs stepCall pieceCall (Sound tableLength) (λ u e R. piece-formed u e (R .size) (yes-is (wellFormed u) (R .formed))) (λ u e R. piece-keeps u e tableLength R) t es b S n .0
     where
       yes-is : (c : Bool) → T c → c ≡ true
       yes-is true h = refl

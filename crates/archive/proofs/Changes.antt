@@ -18,11 +18,11 @@ use Rattle.parts.specs.Node.{heardIn, heldIn, slotAt, clockSet, stored, publish
 use Rattle.parts.specs.Channel.{ringAt, frontIn, waitIn, pushed, popped}
 use Rattle.parts.specs.Session.{putSession}
 use Rattle.parts.proofs.Lengths.{length-putSession, length-clockSet, length-published, length-received, length-pushed, length-popped}
-use Rattle.table.specs.Parts.{tableLength, placeOf, sessionOf, siteOf, nodeOf, channelOf, onSession, onSite, onNode, onChannel}
+use Rattle.table.specs.Parts.{Long, placeOf, sessionOf, siteOf, nodeOf, channelOf, onSession, onSite, onNode, onChannel}
 use Rattle.table.specs.Decode.{settingIn, decode}
 use Rattle.table.specs.Put.{sentTo, publishedOn, putChange, putChanges}
 use Rattle.table.specs.Fits.{FitsPublish, FitsReceive, Fits, FitsAll}
-use Rattle.table.proofs.Parts.{length-session, length-site, length-node, length-channel, length-onSite, length-onNode, channel-onNode, length-nodeOf, length-channelOf}
+use Rattle.table.proofs.Parts.{long-still, length-session, length-site, length-node, length-channel, length-onSite, length-onNode, channel-onNode, length-nodeOf, length-channelOf}
 use Rattle.table.proofs.Changes.{place-lt, onNode-keeps, channel-atNode, onChannel-keeps, publishedOn-keeps}
 use Rattle.table.proofs.Sent.{length-sent, channel-sent}
 use Rattle.table.proofs.Decode.{length-putChange}
@@ -171,32 +171,35 @@ module _ (t u : List ℕ) where
 
 -- ---- something done to a session, a node, a channel of both tables
 
-module _ (t u : List ℕ) (l : length t ≡ tableLength) (l′ : length u ≡ tableLength) where
+module _ (t u : List ℕ) (l : Long t) (l′ : length u ≡ length t) where
+  as-long : Long u
+  as-long = long-still t u l′ l
+
   twin-atSession : (s : ℕ) (x : Session) → s < 16 → Twin t (onSession s (putSession x) t) u (onSession s (putSession x) u)
   twin-atSession s x h =
       twin-onSession (putSession x) t u l l′ s h (λ b e. length-putSession x b ∙ e)
-      (twin-putSession x (twin-none (sessionOf t s) (sessionOf u s) (length-session t s l h ∙ sym (length-session u s l′ h))) .writes)
+      (twin-putSession x (twin-none (sessionOf t s) (sessionOf u s) (length-session t s l h ∙ sym (length-session u s as-long h))) .writes)
 
   same-node : (m p : ℕ) → m < 4 → p < 4 → length (nodeOf (siteOf t m) p) ≡ length (nodeOf (siteOf u m) p)
-  same-node m p h g = length-nodeOf t m p l h g ∙ sym (length-nodeOf u m p l′ h g)
+  same-node m p h g = length-nodeOf t m p l h g ∙ sym (length-nodeOf u m p as-long h g)
 
   same-channel : (i p d : ℕ) → i < 4 → p < 4 → d < 3 → length (channelOf (siteOf t i) p d) ≡ length (channelOf (siteOf u i) p d)
-  same-channel i p d h g b = length-channelOf t i p l h g d b ∙ sym (length-channelOf u i p l′ h g d b)
+  same-channel i p d h g b = length-channelOf t i p l h g d b ∙ sym (length-channelOf u i p as-long h g d b)
 
   module _ (f : List ℕ → List ℕ) (m p : ℕ) (h : m < 4) (g : p < 4) where
     twin-atNode : Keeps 1856 f → Both f (nodeOf (siteOf t m) p) (nodeOf (siteOf u m) p) → Twin t (onSite m (onNode p f) t) u (onSite m (onNode p f) u)
     twin-atNode keeps a =
         twin-onSite (onNode p f) t u l l′ m h (onNode-keeps t m p f l h g keeps)
-        (twin-onNode f (siteOf t m) (siteOf u m) p (length-site t m l h) (length-site u m l′ h) g keeps a .writes)
+        (twin-onNode f (siteOf t m) (siteOf u m) p (length-site t m l h) (length-site u m as-long h) g keeps a .writes)
 
     twin-atChannel : (d : ℕ) → d < 3 → Keeps 464 f → Both f (channelOf (siteOf t m) p d) (channelOf (siteOf u m) p d) → Twin t (onSite m (onChannel p d f) t) u (onSite m (onChannel p d f) u)
     twin-atChannel d b keeps a =
         twin-onSite (onChannel p d f) t u l l′ m h (onChannel-keeps t m p d f l h g b keeps)
-        (twin-onChannel f (siteOf t m) (siteOf u m) p (length-site t m l h) (length-site u m l′ h) g d b keeps a .writes)
+        (twin-onChannel f (siteOf t m) (siteOf u m) p (length-site t m l h) (length-site u m as-long h) g d b keeps a .writes)
 
 -- ---- the changes
 
-module _ (t u : List ℕ) (l : length t ≡ tableLength) (l′ : length u ≡ tableLength) where
+module _ (t u : List ℕ) (l : Long t) (l′ : length u ≡ length t) where
   twin-clock : (m p c : ℕ) → m < 4 → p < 4 → Twin t (onSite m (onNode p (clockSet c)) t) u (onSite m (onNode p (clockSet c)) u)
   unfolding clockSet
   twin-clock m p c h g =
@@ -212,7 +215,7 @@ module _ (t u : List ℕ) (l : length t ≡ tableLength) (l′ : length u ≡ ta
       let b : n ≤ 3 = omega (arith, fit .sites) in
       rw (← same-sites t u m a)
       (twin-onSite (publishedOn n m p x) t u l l′ m h (publishedOn-keeps t n m p x l h (fit .part) b)
-      (twin-publishedOn m p x (fit .part) (siteOf t m) (siteOf u m) (length-site t m l h) (length-site u m l′ h) n b h (same-held t u m p (seen .1) a)
+      (twin-publishedOn m p x (fit .part) (siteOf t m) (siteOf u m) (length-site t m l h) (length-site u m (as-long t u l l′) h) n b h (same-held t u m p (seen .1) a)
       (λ d c. same-next t u m p d (fit .site) (fit .sites) (seen .1) c a (seen .2)) .writes))
 
   -- the node stores and hears, then the message leaves the other site's channel, which is as it was
@@ -220,8 +223,12 @@ module _ (t u : List ℕ) (l : length t ≡ tableLength) (l′ : length u ≡ ta
   unfolding putChange
   twin-receive i m p x fit seen =
       twin-then (twin-atNode t u l l′ (received i x) m p (fit .site) (fit .part) keeps (node .writes))
-      (twin-atChannel (f t) (f u) (long t l) (long u l′) popped i p (fit .source) (fit .part) d b popped-keeps (rw (beside t l, beside u l′) (channel .writes)))
+      (twin-atChannel (f t) (f u) (long-still t (f t) (same t l) l) (same u k ∙ l′ ∙ sym (same t l)) popped i p (fit .source) (fit .part) d b popped-keeps
+      (rw (beside t l, beside u k) (channel .writes)))
     where
+      k : Long u
+      k = as-long t u l l′
+
       d : ℕ
       d = placeOf i m
 
@@ -234,10 +241,10 @@ module _ (t u : List ℕ) (l : length t ≡ tableLength) (l′ : length u ≡ ta
       keeps : Keeps 1856 (received i x)
       keeps n e = length-received i x n ∙ e
 
-      long : (v : List ℕ) → length v ≡ tableLength → length (f v) ≡ tableLength
-      long v k = length-onSite v m (onNode p (received i x)) k (fit .site) (onNode-keeps v m p (received i x) k (fit .site) (fit .part) keeps) ∙ k
+      same : (v : List ℕ) → Long v → length (f v) ≡ length v
+      same v k = length-onSite v m (onNode p (received i x)) k (fit .site) (onNode-keeps v m p (received i x) k (fit .site) (fit .part) keeps)
 
-      beside : (v : List ℕ) → length v ≡ tableLength → channelOf (siteOf (f v) i) p d ≡ channelOf (siteOf v i) p d
+      beside : (v : List ℕ) → Long v → channelOf (siteOf (f v) i) p d ≡ channelOf (siteOf v i) p d
       beside v k = channel-atNode v m p (received i x) k (fit .site) (fit .part) keeps i p d
 
       node : Twin (nodeOf (siteOf t m) p) (received i x (nodeOf (siteOf t m) p)) (nodeOf (siteOf u m) p) (received i x (nodeOf (siteOf u m) p))
@@ -250,16 +257,18 @@ module _ (t u : List ℕ) (l : length t ≡ tableLength) (l′ : length u ≡ ta
           twin-popped (channelOf (siteOf t i) p d) (channelOf (siteOf u i) p d) (same-channel t u l l′ i p d (fit .source) (fit .part) b)
           (same-wait t u i m p (fit .site) (fit .other) (ap length (seen .2))) (seen .3)
 
-twin-change : (c : Change) (t u : List ℕ) → length t ≡ tableLength → length u ≡ tableLength → Fits c t → Seen c t u → Twin t (putChange c t) u (putChange c u)
+twin-change : (c : Change) (t u : List ℕ) → Long t → length u ≡ length t → Fits c t → Seen c t u → Twin t (putChange c t) u (putChange c u)
 unfolding putChange
 twin-change (SetSession s x) t u l l′ fit seen = twin-atSession t u l l′ s x (fit .0)
 twin-change (SetClock m p c) t u l l′ fit seen = twin-clock t u l l′ m p c (fit .0) (fit .1)
 twin-change (Publish m p x) t u l l′ fit seen = twin-publish t u l l′ m p x fit seen
 twin-change (Receive i m p x) t u l l′ fit seen = twin-receive t u l l′ i m p x fit seen
 
-pub twin-changes : (cs : List Change) (t u : List ℕ) → length t ≡ tableLength → length u ≡ tableLength → FitsAll cs t → FitsAll cs u → SeenAll cs t u → Twin t (putChanges cs t) u (putChanges cs u)
+pub twin-changes : (cs : List Change) (t u : List ℕ) → Long t → length u ≡ length t → FitsAll cs t → FitsAll cs u → SeenAll cs t u → Twin t (putChanges cs t) u (putChanges cs u)
 unfolding putChanges
-twin-changes [] t u l l′ fit fit′ seen = twin-none t u (l ∙ sym l′)
+twin-changes [] t u l l′ fit fit′ seen = twin-none t u (sym l′)
 twin-changes (c ∷ cs) t u l l′ fit fit′ seen =
+    let e = length-putChange c t l (fit .0) in
+    let e′ = length-putChange c u (as-long t u l l′) (fit′ .0) in
     twin-then (twin-change c t u l l′ (fit .0) (seen .0))
-    (twin-changes cs (putChange c t) (putChange c u) (length-putChange c t l (fit .0) ∙ l) (length-putChange c u l′ (fit′ .0) ∙ l′) (fit .1) (fit′ .1) (seen .1))
+    (twin-changes cs (putChange c t) (putChange c u) (long-still t (putChange c t) e l) (e′ ∙ l′ ∙ sym e) (fit .1) (fit′ .1) (seen .1))

@@ -1,6 +1,7 @@
 -- What may influence a step, on bytes. In order: what a step's changes look at; refusals and the call.
 use Prim.Native.Nat.{ℕ, _<_}
 use native.Mathlib.Nat.{mod-lt}
+use native.Mathlib.Omega.{arith}
 use mathlib.Core.Path.{_≡_, refl, sym, ap, subst, _∙_}
 use mathlib.Core.Bool.{Bool, true, false, _&&_}
 use mathlib.Core.List.{List, [], _∷_}
@@ -22,7 +23,7 @@ use Rattle.protocol.proofs.Influence.{influenced}
 use Rattle.protocol.proofs.Influence as Protocol
 use Rattle.event.specs.Event.{codeLawful, eventOf}
 use Rattle.event.specs.Fields.{unusedZero}
-use Rattle.table.specs.Parts.{tableLength}
+use Rattle.table.specs.Parts.{tableLength, Long}
 use Rattle.table.specs.Decode.{settingIn, decode}
 use Rattle.table.specs.Put.{putChanges}
 use Rattle.table.specs.Fits.{FitsAll}
@@ -85,10 +86,12 @@ module _ (t u : List ℕ) (l : length t ≡ tableLength) (l′ : length u ≡ ta
   same-changes : (e : Event) → step (decode t) e ≡ step (decode u) e → SeenAll (step (decode t) e .changes) t u → SameStep t u (stepped t e) (stepped u e)
   same-changes e q seen =
       let cs = step (decode t) e .changes in
-      let fit : FitsAll cs u = subst (λ o. FitsAll (o .changes) u) (sym q) (step-fits u l′ b′ w′ e) in
+      let long : Long t = omega arith in
+      let long′ : Long u = omega arith in
+      let fit : FitsAll cs u = subst (λ o. FitsAll (o .changes) u) (sym q) (step-fits u long′ b′ w′ e) in
       record {
         answer = ap (λ o. o .says) q;
-        bytes = subst (λ o. SameWrites t (putChanges cs t) u (putChanges (o .changes) u)) q (twin-changes cs t u l l′ (step-fits t l b w e) fit seen .writes);
+        bytes = subst (λ o. SameWrites t (putChanges cs t) u (putChanges (o .changes) u)) q (twin-changes cs t u long (l′ ∙ sym l) (step-fits t long b w e) fit seen .writes);
       }
 
   -- the needs before the protocol's are the event's own

@@ -21,6 +21,7 @@ use Rattle.protocol.specs.Step.{step, next, after}
 use Rattle.protocol.proofs.Runs.{computing}
 use Rattle.event.specs.Event.{codeLawful, timeOf, levelIn, keysOf, eventOf}
 use Rattle.event.specs.Fields.{uses, zeroAt, restZero, unusedZero}
+use Rattle.table.specs.Parts.{tableLength}
 use Rattle.table.specs.Decode.{decode}
 use Rattle.table.specs.Put.{fresh}
 use Rattle.lawful.specs.Values.{settingLawful}
@@ -48,7 +49,7 @@ lawful-four : T (settingLawful four)
 unfolding four settingLawful
 lawful-four = tt
 
-sound : Sound table
+sound : Sound tableLength table
 unfolding table
 sound = fresh-sound four lawful-four
 

@@ -58,7 +58,7 @@ and-unknown false b t = refl
 abbrev stepped : List ℕ → List ℕ → Called
 stepped t e = gives (step (decode t) (eventOf e) .says) (putChanges (step (decode t) (eventOf e) .changes) t)
 
-pub step-event : (t e : List ℕ) → Sound t → T (isEvent e) → stepCall t e ≡ stepped t e
+pub step-event : (t e : List ℕ) → Sound tableLength t → T (isEvent e) → stepCall t e ≡ stepped t e
 unfolding stepCall stepOn isEvent
 step-event t e R i =
     let a = and-yes (eqb (length e) 32) (codeLawful e && unusedZero e) i in
@@ -77,7 +77,7 @@ turned-by : (t : List ℕ) (n : ℕ) → n ≢ 24 → Turned t (refused n t)
 unfolding plain
 turned-by t n d = record { table = refl; number = d }
 
-step-other : (t e : List ℕ) → Sound t → T (not (isEvent e)) → Turned t (stepCall t e)
+step-other : (t e : List ℕ) → Sound tableLength t → T (not (isEvent e)) → Turned t (stepCall t e)
 unfolding stepCall stepOn isEvent
 step-other t e R i =
     cond-elim (Turned t) (eqb (length t) tableLength && eqb (length e) 32)
@@ -90,23 +90,23 @@ step-other t e R i =
     (λ w. absurd (T-not (wellFormed t) (R .formed) w)))
     (λ a. turned-by t 23 (omega arith))
 
-pub call-sound : (t e : List ℕ) → Sound t → Sound (stepCall t e .table)
+pub call-sound : (t e : List ℕ) → Sound tableLength t → Sound tableLength (stepCall t e .table)
 call-sound t e R = go (isEvent e) (λ i. i) (λ i. i)
   where
-    go : (b : Bool) → (T b → T (isEvent e)) → (T (not b) → T (not (isEvent e))) → Sound (stepCall t e .table)
-    go true f g = rw (step-event t e R (f tt)) (step-sound t R (eventOf e))
+    go : (b : Bool) → (T b → T (isEvent e)) → (T (not b) → T (not (isEvent e))) → Sound tableLength (stepCall t e .table)
+    go true f g = rw (step-event t e R (f tt)) (step-sound tableLength t R (eventOf e))
     go false f g = rw (step-other t e R (g tt) .table) R
 
 -- ---- many calls: the protocol's events among the byte strings
 
-pub after-sound : (t : List ℕ) (es : List (List ℕ)) → Sound t → Sound (tableAfter t es)
+pub after-sound : (t : List ℕ) (es : List (List ℕ)) → Sound tableLength t → Sound tableLength (tableAfter t es)
 unfolding tableAfter
 after-sound t [] R = R
 after-sound t (e ∷ es) R = after-sound (stepCall t e .table) es (call-sound t e R)
 
-pub decode-step : (t e : List ℕ) → Sound t → T (isEvent e) → decode (stepCall t e .table) ≡ next (decode t) (eventOf e)
+pub decode-step : (t e : List ℕ) → Sound tableLength t → T (isEvent e) → decode (stepCall t e .table) ≡ next (decode t) (eventOf e)
 unfolding next
-decode-step t e R i = ap (λ c. decode (c .table)) (step-event t e R i) ∙ step-says t R (eventOf e)
+decode-step t e R i = ap (λ c. decode (c .table)) (step-event t e R i) ∙ step-says tableLength t R (eventOf e)
 
 -- what is told of a run over bytes, and of the protocol's run
 pub record Told (t : List ℕ) (es : List (List ℕ)) (S : State) : Type 1 where
@@ -114,7 +114,7 @@ pub record Told (t : List ℕ) (es : List (List ℕ)) (S : State) : Type 1 where
   pub lines : linesOf t es ≡ log S (eventsOf es)
   pub counts : (kind : Net → Event → Answer → Bool) → countOf kind t es ≡ count kind S (eventsOf es)
 
-told-event : (t e : List ℕ) (es : List (List ℕ)) → Sound t → T (isEvent e) → Told (stepCall t e .table) es (decode (stepCall t e .table)) → Told t (e ∷ es) (decode t)
+told-event : (t e : List ℕ) (es : List (List ℕ)) → Sound tableLength t → T (isEvent e) → Told (stepCall t e .table) es (decode (stepCall t e .table)) → Told t (e ∷ es) (decode t)
 unfolding tableAfter linesOf countOf after log count eventsOf
 told-event t e es R i I = record {
   state = I .state ∙ ap (λ S. after S (eventsOf es)) D ∙ sym (ap (after (decode t)) E);
@@ -137,7 +137,7 @@ told-event t e es R i I = record {
     E : cond (isEvent e) (eventOf e ∷ eventsOf es) (eventsOf es) ≡ eventOf e ∷ eventsOf es
     E = cond-yes (isEvent e) _ _ i
 
-told-other : (t e : List ℕ) (es : List (List ℕ)) → Sound t → T (not (isEvent e)) → Told (stepCall t e .table) es (decode (stepCall t e .table)) → Told t (e ∷ es) (decode t)
+told-other : (t e : List ℕ) (es : List (List ℕ)) → Sound tableLength t → T (not (isEvent e)) → Told (stepCall t e .table) es (decode (stepCall t e .table)) → Told t (e ∷ es) (decode t)
 unfolding tableAfter linesOf countOf eventsOf
 told-other t e es R i I = record {
   state = I .state ∙ ap (λ u. after (decode u) (eventsOf es)) D ∙ sym (ap (after (decode t)) E);
@@ -155,7 +155,7 @@ told-other t e es R i I = record {
     E : cond (isEvent e) (eventOf e ∷ eventsOf es) (eventsOf es) ≡ eventsOf es
     E = cond-not (isEvent e) _ _ i
 
-pub told : (t : List ℕ) (es : List (List ℕ)) → Sound t → Told t es (decode t)
+pub told : (t : List ℕ) (es : List (List ℕ)) → Sound tableLength t → Told t es (decode t)
 unfolding tableAfter linesOf countOf after log count eventsOf
 told t [] R = record { state = refl; lines = refl; counts = λ kind. refl }
 told t (e ∷ es) R = go (isEvent e) (λ i. i) (λ i. i) (told (stepCall t e .table) es (call-sound t e R))
@@ -171,7 +171,7 @@ module _ (c : Setting) (l : T (settingLawful c)) (t : List ℕ) (long : length t
   unfolding setupCall
   set-up = ap (λ r. r .table) (cond-yes (eqb (length t) tableLength) _ (refused 23 t) (yes-eqb (length t) tableLength long) ∙ cond-yes (settingLawful c) _ (refused 11 t) l)
 
-  setUp-sound : Sound (setUp c t)
+  setUp-sound : Sound tableLength (setUp c t)
   setUp-sound = rw set-up (fresh-sound c l)
 
   decode-setUp : decode (setUp c t) ≡ setup c
@@ -180,7 +180,7 @@ module _ (c : Setting) (l : T (settingLawful c)) (t : List ℕ) (long : length t
   run-told : (es : List (List ℕ)) → Told (setUp c t) es (setup c)
   run-told es = subst (Told (setUp c t) es) decode-setUp (told (setUp c t) es setUp-sound)
 
-  run-sound : (es : List (List ℕ)) → Sound (tableAfter (setUp c t) es)
+  run-sound : (es : List (List ℕ)) → Sound tableLength (tableAfter (setUp c t) es)
   run-sound es = after-sound (setUp c t) es setUp-sound
 
   few : c .sites ≤ width
@@ -213,7 +213,7 @@ conserved-bytes c l t long es i m p d b =
 pub never-ill : NeverIll
 never-ill c l t long es e = go (isEvent e) (λ i. i) (λ i. i)
   where
-    R : Sound (tableAfter (setUp c t) es)
+    R : Sound tableLength (tableAfter (setUp c t) es)
     R = run-sound c l t long es
 
     go : (b : Bool) → (T b → T (isEvent e)) → (T (not b) → T (not (isEvent e))) → numberOf (stepCall (tableAfter (setUp c t) es) e .answer) ≢ 24

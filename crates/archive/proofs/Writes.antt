@@ -19,7 +19,7 @@ use Rattle.protocol.specs.Record.{Rec, Msg, Update, Beat}
 use Rattle.protocol.specs.State.{Mark, Session}
 use Rattle.record.specs.RecordBytes.{putFields, putRecord, putMessage}
 use Rattle.parts.specs.Session.{flag, putMarks, putSession}
-use Rattle.table.specs.Parts.{tableLength, sessionAt, siteAt, nodeAt, channelAt, sessionOf, siteOf, nodeOf, channelOf, onSession, onSite, onNode, onChannel}
+use Rattle.table.specs.Parts.{Long, sessionAt, siteAt, nodeAt, channelAt, sessionOf, siteOf, nodeOf, channelOf, onSession, onSite, onNode, onChannel}
 use Rattle.table.proofs.Parts.{session-is, site-is, node-is, channel-is}
 use Rattle.archive.specs.Influence.{SameWrites}
 
@@ -158,7 +158,7 @@ module _ (off k : ℕ) (f : List ℕ → List ℕ) (s r : List ℕ) (fit : off +
 
 -- ---- sessions and sites of the table
 
-module _ (f : List ℕ → List ℕ) (t u : List ℕ) (l : length t ≡ tableLength) (l′ : length u ≡ tableLength) where
+module _ (f : List ℕ → List ℕ) (t u : List ℕ) (l : Long t) (l′ : length u ≡ length t) where
   pub twin-onSession : (s : ℕ) → s < 16 → Keeps 128 f → Both f (sessionOf t s) (sessionOf u s) → Twin t (onSession s f t) u (onSession s f u)
   unfolding onSession
   twin-onSession s h keeps = rw (session-is t s h, session-is u s h) (twin-onPart (sessionAt s) 128 f t u (omega arith) (omega arith) keeps)

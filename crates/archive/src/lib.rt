@@ -1,5 +1,5 @@
 // The level archive over one lent table of 57,344 bytes, for any event bytes and any table: no function here requires anything. Each states its answer
-// and the bytes afterwards as one equation. In order: setup, a step, many steps; `port` has them for callers in C and Rust. Assumes nothing.
+// and the bytes afterwards as one equation. In order: setup, a step, many steps; `port` has them for callers in C and Rust.
 ghost use mathlib.Core.Path.{_≡_};
 ghost use Prim.Native.Nat.{_+_, _/_, min};
 ghost use lib.ListN.{length, replicate};
@@ -12,6 +12,9 @@ use steps::pieces;
 use steps::runs;
 
 pub mod port;
+
+// "exactly 57,344 bytes"
+pub const TABLE: usize = 57344;
 
 fn clear(t: &mut [u8])
     ensures { λ _. ⌜ now (t .exit) ≡ replicate (length (now (t .entry))) 0 ⌝ }
@@ -27,7 +30,7 @@ fn clear(t: &mut [u8])
 pub fn setup(table: &mut [u8], sites: u32, parts: u32) -> Answer
     ensures { λ r. ⌜ gives r (now (table .exit)) ≡ setupCall (now (table .entry)) sites parts ⌝ }
 {
-    if table.len() != 57344 {
+    if table.len() != TABLE {
         return pieces::refused(23);
     }
     let lawful = ((0 < sites) & (sites <= 4)) & ((0 < parts) & (parts <= 4));
@@ -44,7 +47,7 @@ pub fn setup(table: &mut [u8], sites: u32, parts: u32) -> Answer
 pub fn step(table: &mut [u8], event: &[u8]) -> Answer
     ensures { λ r. ⌜ gives r (now (table .exit)) ≡ stepCall (now (table .entry)) (now (event .entry)) ⌝ }
 {
-    if table.len() != 57344 {
+    if table.len() != TABLE {
         return pieces::refused(23);
     }
     if event.len() != 32 {
@@ -74,7 +77,7 @@ pub fn run(table: &mut [u8], events: &[u8], answers: &mut [u8]) -> usize
     ensures { λ r. ⌜ (r ≡ piecesOf (now (events .entry)) (now (answers .entry))) × (ran (now (table .exit)) (now (answers .exit)) ≡ runCall (now (table .entry)) (now (events .entry)) (now (answers .entry))) ⌝ }
 {
     let n = pieces_for(events.len(), answers.len());
-    if table.len() != 57344 {
+    if table.len() != TABLE {
         runs::turn_all_away(events, answers, n, 23);
         return n;
     }

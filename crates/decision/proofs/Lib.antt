@@ -2,7 +2,6 @@
 -- that write to nodes.
 pub mod Formed
 pub mod Told
-pub mod Nested
 pub mod Ladders
 pub mod Room
 pub mod Times

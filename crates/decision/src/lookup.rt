@@ -1,17 +1,15 @@
-// What decisions read of a well-formed table: a session, a key's partition, and of a node what it has heard and its newest record. Each lends the
-// bytes that it is about. Assumes nothing.
+// What decisions read of a well-formed table: a session, a key's partition, and of a node what it has heard and its newest record.
 ghost use mathlib.Core.Path.{_≡_};
 ghost use mathlib.Core.Bool.{true};
 ghost use Prim.Native.Nat.{_≤_, _<_};
 ghost use lib.Dec.{T};
-ghost use lib.ListN.{length};
 ghost use Rattle.vector.specs.Entries.{entry};
 ghost use Rattle.protocol.specs.Record.{Setting, partOf, newest};
 ghost use Rattle.parts.specs.Node.{heardIn, storeIn};
 ghost use Rattle.parts.specs.Session.{sessionIn};
 ghost use Rattle.parts.specs.Meaning.{asSession};
 ghost use Rattle.search.specs.Found.{fitsRead, foundOf};
-ghost use Rattle.table.specs.Parts.{sessionOf, siteOf, nodeOf};
+ghost use Rattle.table.specs.Parts.{Long, sessionOf, siteOf, nodeOf};
 ghost use Rattle.table.specs.Decode.{settingIn};
 ghost use Rattle.lawful.specs.WellFormed.{wellFormed};
 use parts::Session;
@@ -19,20 +17,19 @@ use parts::nodes;
 use parts::sessions;
 use protocol::limits;
 use search::Found;
+use table::places;
 use vector::Vector;
 
 pub fn session(t: &[u8], s: u8) -> Session
-    requires { ⌜ (length (now t) ≡ 57344) × T (wellFormed (now t)) × (s < 16) ⌝ }
+    requires { ⌜ Long (now t) × T (wellFormed (now t)) × (s < 16) ⌝ }
     ensures { λ r. ⌜ (asSession r ≡ sessionIn (sessionOf (now (t .entry)) s)) × (r .count ≤ 8) × (r .open ≡ true → r .site < 4) ⌝ }
 {
-    let off = 128 + 128 * (s as usize);
-    let end = off + 128;
-    sessions::load(&t[off..end])
+    sessions::load(places::session(t, s))
 }
 
 // "key k lives on partition k mod (number of partitions)"
 pub fn partition(t: &[u8], k: u8) -> u8
-    requires { ⌜ (length (now t) ≡ 57344) × T (wellFormed (now t)) ⌝ }
+    requires { ⌜ Long (now t) × T (wellFormed (now t)) ⌝ }
     ensures { λ r. ⌜ (r ≡ partOf (settingIn (now (t .entry))) k) × (r < 4) ⌝ }
 {
     limits::partition_of(k, codec::load_u8(t, 1))
@@ -40,20 +37,16 @@ pub fn partition(t: &[u8], k: u8) -> u8
 
 // What the node of site m and partition p has heard.
 pub fn heard(t: &[u8], m: u8, p: u8) -> Vector
-    requires { ⌜ (length (now t) ≡ 57344) × (m < 4) × (p < 4) ⌝ }
+    requires { ⌜ Long (now t) × (m < 4) × (p < 4) ⌝ }
     ensures { λ r. ⌜ entry (r .e) ≡ heardIn (nodeOf (siteOf (now (t .entry)) m) p) ⌝ }
 {
-    let off = 4096 + 13056 * (m as usize) + 1856 * (p as usize);
-    let end = off + 1856;
-    nodes::heard(&t[off..end])
+    nodes::heard(places::node(t, m, p))
 }
 
 // The newest record there that fits a read of the key: on a page, that of the page's vector.
 pub fn newest(t: &[u8], m: u8, p: u8, key: u8, paged: bool, page: Vector) -> Found
-    requires { ⌜ (length (now t) ≡ 57344) × T (wellFormed (now t)) × (m < 4) × (p < 4) ⌝ }
+    requires { ⌜ Long (now t) × T (wellFormed (now t)) × (m < 4) × (p < 4) ⌝ }
     ensures { λ r. ⌜ ((c : Setting) → foundOf r ≡ newest c (fitsRead paged key (entry (page .e))) (storeIn (nodeOf (siteOf (now (t .entry)) m) p))) × (r .reading .source < 4) ⌝ }
 {
-    let off = 4096 + 13056 * (m as usize) + 1856 * (p as usize);
-    let end = off + 1856;
-    search::newest(&t[off..end], key, paged, page)
+    search::newest(places::node(t, m, p), key, paged, page)
 }

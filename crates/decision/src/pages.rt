@@ -1,10 +1,10 @@
 // The decisions of a page: BEGIN, READ and END. Each takes the session, tests it from top to bottom as document 01's table of numbers has it, and
-// decides. Assumes nothing.
+// decides.
 ghost use mathlib.Core.Path.{_≡_};
 ghost use Prim.Native.Nat.{_≤_, _<_};
 ghost use lib.Dec.{T};
-ghost use lib.ListN.{length};
 ghost use Rattle.protocol.specs.Event.{BEGIN, READ, END};
+ghost use Rattle.table.specs.Parts.{Long};
 ghost use Rattle.table.specs.Decode.{decode};
 ghost use Rattle.lawful.specs.WellFormed.{wellFormed};
 ghost use Rattle.outcome.specs.Marks.{keysOn};
@@ -20,7 +20,7 @@ use protocol::Answer;
 
 // BEGIN of a page of the first `count` keys, with the node of partition p as its coordinator.
 pub fn begin(t: &[u8], s: u8, p: u8, count: u8, keys: [u8; 8]) -> Decided
-    requires { ⌜ (length (now t) ≡ 57344) × T (wellFormed (now t)) × (s < 16) × (p < 4) × (count ≤ 8) ⌝ }
+    requires { ⌜ Long (now t) × T (wellFormed (now t)) × (s < 16) × (p < 4) × (count ≤ 8) ⌝ }
     ensures { λ r. ⌜ outcomeOf r ≡ answered (decode (now (t .entry))) (BEGIN s p (keysOn keys count)) ⌝ }
 {
     let x = lookup::session(t, s);
@@ -39,7 +39,7 @@ pub fn begin(t: &[u8], s: u8, p: u8, count: u8, keys: [u8; 8]) -> Decided
 
 // READ of key k: "every entry of the node's vector, m included, is at least the page's", and then the newest record that fits the page is shown.
 pub fn read(t: &[u8], s: u8, k: u8) -> Decided
-    requires { ⌜ (length (now t) ≡ 57344) × T (wellFormed (now t)) × (s < 16) ⌝ }
+    requires { ⌜ Long (now t) × T (wellFormed (now t)) × (s < 16) ⌝ }
     ensures { λ r. ⌜ outcomeOf r ≡ answered (decode (now (t .entry))) (READ s k) ⌝ }
 {
     let x = lookup::session(t, s);
@@ -67,7 +67,7 @@ pub fn read(t: &[u8], s: u8, k: u8) -> Decided
 
 // END of the page: "raises the session's vector, as for GET", by what the page gathered, which has no stamp of its own.
 pub fn end(t: &[u8], s: u8) -> Decided
-    requires { ⌜ (length (now t) ≡ 57344) × T (wellFormed (now t)) × (s < 16) ⌝ }
+    requires { ⌜ Long (now t) × T (wellFormed (now t)) × (s < 16) ⌝ }
     ensures { λ r. ⌜ outcomeOf r ≡ answered (decode (now (t .entry))) (END s) ⌝ }
 {
     let x = lookup::session(t, s);

@@ -1,10 +1,10 @@
 // The decisions of a session without a page: OPEN, CLOSE and GET. Each takes the session, tests it from top to bottom as document 01's table of
-// numbers has it, and decides. Assumes nothing.
+// numbers has it, and decides.
 ghost use mathlib.Core.Path.{_≡_};
 ghost use Prim.Native.Nat.{_<_};
 ghost use lib.Dec.{T};
-ghost use lib.ListN.{length};
 ghost use Rattle.protocol.specs.Event.{OPEN, CLOSE, GET};
+ghost use Rattle.table.specs.Parts.{Long};
 ghost use Rattle.table.specs.Decode.{decode};
 ghost use Rattle.lawful.specs.WellFormed.{wellFormed};
 ghost use Rattle.outcome.specs.Decided.{outcomeOf};
@@ -19,7 +19,7 @@ use vector::Vector;
 
 // OPEN of session s at site m.
 pub fn open_session(t: &[u8], s: u8, m: u8) -> Decided
-    requires { ⌜ (length (now t) ≡ 57344) × T (wellFormed (now t)) × (s < 16) ⌝ }
+    requires { ⌜ Long (now t) × T (wellFormed (now t)) × (s < 16) ⌝ }
     ensures { λ r. ⌜ outcomeOf r ≡ answered (decode (now (t .entry))) (OPEN s m) ⌝ }
 {
     let x = lookup::session(t, s);
@@ -30,7 +30,7 @@ pub fn open_session(t: &[u8], s: u8, m: u8) -> Decided
 }
 
 pub fn close_session(t: &[u8], s: u8) -> Decided
-    requires { ⌜ (length (now t) ≡ 57344) × T (wellFormed (now t)) × (s < 16) ⌝ }
+    requires { ⌜ Long (now t) × T (wellFormed (now t)) × (s < 16) ⌝ }
     ensures { λ r. ⌜ outcomeOf r ≡ answered (decode (now (t .entry))) (CLOSE s) ⌝ }
 {
     let x = lookup::session(t, s);
@@ -42,7 +42,7 @@ pub fn close_session(t: &[u8], s: u8) -> Decided
 
 // GET of key k: "the node's entry for every site other than m is at least the session's", and then the newest record is shown.
 pub fn get(t: &[u8], s: u8, k: u8) -> Decided
-    requires { ⌜ (length (now t) ≡ 57344) × T (wellFormed (now t)) × (s < 16) ⌝ }
+    requires { ⌜ Long (now t) × T (wellFormed (now t)) × (s < 16) ⌝ }
     ensures { λ r. ⌜ outcomeOf r ≡ answered (decode (now (t .entry))) (GET s k) ⌝ }
 {
     let x = lookup::session(t, s);

@@ -1,9 +1,8 @@
-// The decisions of the four events that write to nodes: CLOCK, BEAT, PUT and DELIVER. In order: the bytes of a part, room, and an event each.
+// The decisions of the four events that write to nodes: CLOCK, BEAT, PUT and DELIVER. In order: room, and an event each.
 ghost use mathlib.Core.Path.{_≡_};
 ghost use Prim.Native.Nat.{_-_, _≤_, _<_};
 ghost use mathlib.Core.List.{[], _∷_};
 ghost use lib.Dec.{T, ltb};
-ghost use lib.ListN.{length};
 ghost use Rattle.codec.specs.Le.{load};
 ghost use Rattle.codec.specs.Below.{allBelow};
 ghost use Rattle.vector.specs.Entries.{entry};
@@ -11,7 +10,7 @@ ghost use Rattle.protocol.specs.Event.{CLOCK, BEAT, PUT, DELIVER};
 ghost use Rattle.protocol.specs.Needs.{putReady};
 ghost use Rattle.parts.specs.Node.{clockIn, heardIn, heldIn};
 ghost use Rattle.parts.specs.Channel.{waitIn};
-ghost use Rattle.table.specs.Parts.{siteOf, nodeOf, channelOf};
+ghost use Rattle.table.specs.Parts.{Long, siteOf, nodeOf, channelOf};
 ghost use Rattle.table.specs.Decode.{decode};
 ghost use Rattle.lawful.specs.WellFormed.{wellFormed};
 ghost use Rattle.outcome.specs.Decided.{outcomeOf};
@@ -23,42 +22,12 @@ use outcome::answers;
 use parts::channels;
 use parts::nodes;
 use record::bytes;
+use table::places;
 use vector::Vector;
-
-// The part of site m.
-fn site(t: &[u8], m: u8) -> &[u8]
-    requires { ⌜ (length (now t) ≡ 57344) × (m < 4) ⌝ }
-    ensures { λ r. ⌜ (now r ≡ siteOf (now (t .entry)) m) × (length (now r) ≡ 13056) ⌝ }
-{
-    let off = 4096 + 13056 * (m as usize);
-    let end = off + 13056;
-    &t[off..end]
-}
-
-fn node(t: &[u8], m: u8, p: u8) -> &[u8]
-    requires { ⌜ (length (now t) ≡ 57344) × (m < 4) × (p < 4) ⌝ }
-    ensures { λ r. ⌜ (now r ≡ nodeOf (siteOf (now (t .entry)) m) p) × (length (now r) ≡ 1856) ⌝ }
-{
-    let part = site(t, m);
-    let off = 1856 * (p as usize);
-    let end = off + 1856;
-    &part[off..end]
-}
-
-// The channel of node (m, p) to the place d.
-fn channel(t: &[u8], m: u8, p: u8, d: usize) -> &[u8]
-    requires { ⌜ (length (now t) ≡ 57344) × (m < 4) × (p < 4) × (d < 3) ⌝ }
-    ensures { λ r. ⌜ (now r ≡ channelOf (siteOf (now (t .entry)) m) p d) × (length (now r) ≡ 464) ⌝ }
-{
-    let part = site(t, m);
-    let off = 7424 + 464 * (3 * (p as usize) + d);
-    let end = off + 464;
-    &part[off..end]
-}
 
 // What node (m, p) has heard of its own site: its latest stamp.
 fn own(t: &[u8], m: u8, p: u8) -> u64
-    requires { ⌜ (length (now t) ≡ 57344) × (m < 4) × (p < 4) ⌝ }
+    requires { ⌜ Long (now t) × (m < 4) × (p < 4) ⌝ }
     ensures { λ r. ⌜ r ≡ heardIn (nodeOf (siteOf (now (t .entry)) m) p) m ⌝ }
 {
     let heard = lookup::heard(t, m, p).e;
@@ -67,22 +36,22 @@ fn own(t: &[u8], m: u8, p: u8) -> u64
 
 // Whether node (m, p) holds fewer than 32 records.
 fn has_slot(t: &[u8], m: u8, p: u8) -> bool
-    requires { ⌜ (length (now t) ≡ 57344) × (m < 4) × (p < 4) ⌝ }
+    requires { ⌜ Long (now t) × (m < 4) × (p < 4) ⌝ }
     ensures { λ r. ⌜ r ≡ ltb (heldIn (nodeOf (siteOf (now (t .entry)) m) p)) 32 ⌝ }
 {
-    nodes::held(node(t, m, p)) < 32
+    nodes::held(places::node(t, m, p)) < 32
 }
 
 // Whether each outgoing channel of node (m, p) holds fewer than 8 messages.
 fn has_room(t: &[u8], m: u8, p: u8) -> bool
-    requires { ⌜ (length (now t) ≡ 57344) × (1 ≤ load 1 (now t) 0) × (load 1 (now t) 0 ≤ 4) × (m < 4) × (p < 4) ⌝ }
+    requires { ⌜ Long (now t) × (1 ≤ load 1 (now t) 0) × (load 1 (now t) 0 ≤ 4) × (m < 4) × (p < 4) ⌝ }
     ensures { λ r. ⌜ r ≡ allBelow (load 1 (now (t .entry)) 0 - 1) (λ d. ltb (waitIn (channelOf (siteOf (now (t .entry)) m) p d)) 8) ⌝ }
 {
     let n = codec::load_u8(t, 0) as usize - 1;
     let mut all = true;
     let mut d = 0;
     while d < n {
-        all = all & (channels::waiting(channel(t, m, p, d)) < 8);
+        all = all & (channels::waiting(places::channel(t, m, p, d)) < 8);
         d += 1;
     }
     all
@@ -90,10 +59,10 @@ fn has_room(t: &[u8], m: u8, p: u8) -> bool
 
 // "An equal time is done."
 pub fn clock(t: &[u8], m: u8, p: u8, time: u64) -> Decided
-    requires { ⌜ (length (now t) ≡ 57344) × T (wellFormed (now t)) × (m < load 1 (now t) 0) × (p < load 1 (now t) 1) ⌝ }
+    requires { ⌜ Long (now t) × T (wellFormed (now t)) × (m < load 1 (now t) 0) × (p < load 1 (now t) 1) ⌝ }
     ensures { λ r. ⌜ outcomeOf r ≡ answered (decode (now (t .entry))) (CLOCK m p time) ⌝ }
 {
-    if time < nodes::clock(node(t, m, p)) {
+    if time < nodes::clock(places::node(t, m, p)) {
         return answers::refused(19);
     }
     let effect = Effect::Clock {
@@ -106,10 +75,10 @@ pub fn clock(t: &[u8], m: u8, p: u8, time: u64) -> Decided
 
 // "if the clock is greater than entry m": otherwise nothing is sent, and no room is asked for.
 pub fn beat(t: &[u8], m: u8, p: u8) -> Decided
-    requires { ⌜ (length (now t) ≡ 57344) × T (wellFormed (now t)) × (m < load 1 (now t) 0) × (p < load 1 (now t) 1) ⌝ }
+    requires { ⌜ Long (now t) × T (wellFormed (now t)) × (m < load 1 (now t) 0) × (p < load 1 (now t) 1) ⌝ }
     ensures { λ r. ⌜ outcomeOf r ≡ answered (decode (now (t .entry))) (BEAT m p) ⌝ }
 {
-    let stamp = nodes::clock(node(t, m, p));
+    let stamp = nodes::clock(places::node(t, m, p));
     if stamp <= own(t, m, p) {
         return answers::done(Effect::Nothing);
     }
@@ -127,15 +96,15 @@ pub fn beat(t: &[u8], m: u8, p: u8) -> Decided
 // Whether node (m, p) may stamp a record of a session with vector v: "the node's clock is greater than every entry of the session's vector and greater
 // than the node's own entry m".
 fn is_ready(t: &[u8], m: u8, p: u8, v: Vector) -> bool
-    requires { ⌜ (length (now t) ≡ 57344) × (m < 4) × (p < 4) ⌝ }
+    requires { ⌜ Long (now t) × (m < 4) × (p < 4) ⌝ }
     ensures { λ r. ⌜ r ≡ putReady (entry (v .e)) (heardIn (nodeOf (siteOf (now (t .entry)) m) p) m) (clockIn (nodeOf (siteOf (now (t .entry)) m) p)) ⌝ }
 {
-    let time = nodes::clock(node(t, m, p));
+    let time = nodes::clock(places::node(t, m, p));
     (v.largest() < time) & (own(t, m, p) < time)
 }
 
 pub fn put(t: &[u8], s: u8, key: u8, quality: u8, level: i32) -> Decided
-    requires { ⌜ (length (now t) ≡ 57344) × T (wellFormed (now t)) × (s < 16) ⌝ }
+    requires { ⌜ Long (now t) × T (wellFormed (now t)) × (s < 16) ⌝ }
     ensures { λ r. ⌜ outcomeOf r ≡ answered (decode (now (t .entry))) (PUT s key quality level) ⌝ }
 {
     let x = lookup::session(t, s);
@@ -157,16 +126,16 @@ pub fn put(t: &[u8], s: u8, key: u8, quality: u8, level: i32) -> Decided
     if !is_ready(t, m, p, v) {
         return answers::refused(3);
     }
-    let stamp = nodes::clock(node(t, m, p));
+    let stamp = nodes::clock(places::node(t, m, p));
     answers::stored(s, x, p, key, quality, level, stamp)
 }
 
 pub fn deliver(t: &[u8], i: u8, m: u8, p: u8) -> Decided
-    requires { ⌜ (length (now t) ≡ 57344) × T (wellFormed (now t)) × (i < load 1 (now t) 0) × (m < load 1 (now t) 0) × (i ≡ m → ⊥) × (p < load 1 (now t) 1) ⌝ }
+    requires { ⌜ Long (now t) × T (wellFormed (now t)) × (i < load 1 (now t) 0) × (m < load 1 (now t) 0) × (i ≡ m → ⊥) × (p < load 1 (now t) 1) ⌝ }
     ensures { λ r. ⌜ outcomeOf r ≡ answered (decode (now (t .entry))) (DELIVER i m p) ⌝ }
 {
     let d = table::place_of(i as usize, m as usize);
-    let c = channel(t, i, p, d);
+    let c = places::channel(t, i, p, d);
     if channels::waiting(c) == 0 {
         return answers::refused(20);
     }

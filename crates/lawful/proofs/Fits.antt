@@ -1,5 +1,5 @@
 -- What a step changes fits a well-formed table. In order: the lists that a table says and its bytes' counts, a lawful change fits, many, and every
--- step (`step-fits`). Assumes nothing.
+-- step (`step-fits`).
 use Prim.Native.Nat.{ℕ, _+_, _-_, _≤_, _<_}
 use native.Mathlib.Decide.{decLt}
 use native.Mathlib.Omega.{arith}
@@ -18,10 +18,11 @@ use Rattle.record.specs.RecordBytes.{messageAt}
 use Rattle.record.proofs.Ranges.{time-fits, message-fits}
 use Rattle.parts.specs.Channel.{ringAt, frontIn, waitIn, queueIn}
 use Rattle.parts.specs.Room.{Room}
-use Rattle.table.specs.Parts.{tableLength, placeOf, siteOf, nodeOf, channelOf}
+use Rattle.table.specs.Parts.{Long, placeOf, siteOf, nodeOf, channelOf}
 use Rattle.table.specs.Decode.{settingIn, decode}
 use Rattle.table.specs.Put.{putChange}
 use Rattle.table.specs.Fits.{Fits, FitsAll}
+use Rattle.table.proofs.Parts.{long-still}
 use Rattle.table.proofs.Bytes.{bytes-putChange}
 use Rattle.table.proofs.Decode.{length-putChange, setting-put, decode-put}
 use Rattle.lawful.specs.WellFormed.{wellFormed}
@@ -83,16 +84,16 @@ lawful-fits (Receive i m p x) t few few′ bytes ok = record {
   bytes = bytes;
 }
 
-all-fit : (cs : List Change) (t : List ℕ) → length t ≡ tableLength → settingIn t .sites ≤ 4 → settingIn t .parts ≤ 4 → Bytes t → LawfulAll cs (decode t) → FitsAll cs t
+all-fit : (cs : List Change) (t : List ℕ) → Long t → settingIn t .sites ≤ 4 → settingIn t .parts ≤ 4 → Bytes t → LawfulAll cs (decode t) → FitsAll cs t
 all-fit [] t l few few′ bytes ok = tt
 all-fit (c ∷ cs) t l few few′ bytes ok =
     let fit = lawful-fits c t few few′ bytes (ok .0) in
     let same = setting-put c t l fit in (
       fit,
-      all-fit cs (putChange c t) (length-putChange c t l fit ∙ l) (subst (λ k. k .sites ≤ 4) (sym same) few) (subst (λ k. k .parts ≤ 4) (sym same) few′)
+      all-fit cs (putChange c t) (long-still t (putChange c t) (length-putChange c t l fit) l) (subst (λ k. k .sites ≤ 4) (sym same) few) (subst (λ k. k .parts ≤ 4) (sym same) few′)
           (bytes-putChange c t bytes) (subst (LawfulAll cs) (sym (decode-put c t l fit)) (ok .1)),
     )
 
-pub step-fits : (t : List ℕ) → length t ≡ tableLength → Bytes t → T (wellFormed t) → (e : Event) → FitsAll (step (decode t) e .changes) t
+pub step-fits : (t : List ℕ) → Long t → Bytes t → T (wellFormed t) → (e : Event) → FitsAll (step (decode t) e .changes) t
 step-fits t l bytes w e =
     let F = formed t w in all-fit (step (decode t) e .changes) t l (F .sites) (F .parts) bytes (step-lawful (decode t) (says-lawful t F bytes) e)

@@ -1,5 +1,5 @@
 -- A lawful change keeps a table well formed. In order: a table of the same setting, a change of one site, node or channel, each change, many changes,
--- and every step (`step-formed`). Assumes nothing.
+-- and every step (`step-formed`).
 use Prim.Native.Nat.{ℕ, _-_, _≤_, _<_}
 use native.Mathlib.Omega.{arith}
 use mathlib.Core.Path.{_≡_, sym, subst, _∙_}
@@ -20,11 +20,11 @@ use Rattle.parts.specs.Node.{clockSet, published, received}
 use Rattle.parts.specs.Channel.{pushed, popped}
 use Rattle.parts.specs.Session.{putSession}
 use Rattle.parts.proofs.Lengths.{length-clockSet, length-received, length-popped, length-putSession}
-use Rattle.table.specs.Parts.{tableLength, placeOf, sessionOf, siteOf, nodeOf, channelOf, onSession, onSite, onNode, onChannel}
+use Rattle.table.specs.Parts.{Long, placeOf, sessionOf, siteOf, nodeOf, channelOf, onSession, onSite, onNode, onChannel}
 use Rattle.table.specs.Decode.{settingIn, decode}
 use Rattle.table.specs.Put.{publishedOn, putChange, putChanges}
 use Rattle.table.specs.Fits.{FitsPublish, FitsReceive, Fits}
-use Rattle.table.proofs.Parts.{length-session, session-onSession, site-onSession, length-onSite, session-onSite, load-onSite, length-nodeOf, length-channelOf, bytes-channelOf}
+use Rattle.table.proofs.Parts.{long-still, length-session, session-onSession, site-onSession, length-onSite, session-onSite, load-onSite, length-nodeOf, length-channelOf, bytes-channelOf}
 use Rattle.table.proofs.Changes.{at-yes, place-lt, onNode-keeps, node-atNode, channel-atNode, onChannel-keeps, node-atChannel, channel-atChannel, publishedOn-keeps, node-atPublish, channel-atPublish}
 use Rattle.table.proofs.Bytes.{bytes-putChange}
 use Rattle.table.proofs.Decode.{length-putChange, setting-put, decode-put}
@@ -57,7 +57,7 @@ at-elim P m p j q h b = let same = at-yes m p j q b in rw (same .0, same .1) h
 
 -- ---- a change of site m, of one node, of one channel
 
-module _ (t : List ℕ) (l : length t ≡ tableLength) (F : Formed t) where
+module _ (t : List ℕ) (l : Long t) (F : Formed t) where
   abbrev Nodes : List ℕ → Type 0
   Nodes u = (j q : ℕ) → j < 4 → q < 4 → NodeFacts (settingIn t) j q (nodeOf (siteOf u j) q)
 
@@ -92,7 +92,7 @@ module _ (t : List ℕ) (l : length t ≡ tableLength) (F : Formed t) where
 
 -- ---- each change
 
-module _ (t : List ℕ) (l : length t ≡ tableLength) (bytes : Bytes t) (F : Formed t) where
+module _ (t : List ℕ) (l : Long t) (bytes : Bytes t) (F : Formed t) where
   fits : (c : Change) → Lawful c (decode t) → Fits c t
   fits c ok = lawful-fits c t (F .sites) (F .parts) bytes ok
 
@@ -187,7 +187,7 @@ module _ (t : List ℕ) (l : length t ≡ tableLength) (bytes : Bytes t) (F : Fo
         let site = fit-receive .site in
         let part = fit-receive .part in
         let near = place-lt 4 i m (fit-receive .source) site (fit-receive .other) in
-        let long = length-onSite t m (onNode p (received i x)) l site (onNode-keeps t m p (received i x) l site part received-keeps) ∙ l in
+        let long = long-still t u (length-onSite t m (onNode p (received i x)) l site (onNode-keeps t m p (received i x) l site part received-keeps)) l in
         onChannel-formed u long node-received i p (placeOf i m) popped (fit-receive .source) part near (λ b e. length-popped b ∙ e)
         (λ j q e h g k.
         let bytes′ = subst Bytes (sym (channel-atNode t m p (received i x) l site part received-keeps j q e)) (bytes-channelOf t bytes j q e) in
@@ -201,15 +201,15 @@ module _ (t : List ℕ) (l : length t ≡ tableLength) (bytes : Bytes t) (F : Fo
 
 -- ---- many changes, and every step
 
-changes-formed : (cs : List Change) (t : List ℕ) → length t ≡ tableLength → Bytes t → Formed t → LawfulAll cs (decode t) → Formed (putChanges cs t)
+changes-formed : (cs : List Change) (t : List ℕ) → Long t → Bytes t → Formed t → LawfulAll cs (decode t) → Formed (putChanges cs t)
 unfolding putChanges
 changes-formed [] t l bytes F ok = F
 changes-formed (c ∷ cs) t l bytes F ok =
     let fit = lawful-fits c t (F .sites) (F .parts) bytes (ok .0) in
-    changes-formed cs (putChange c t) (length-putChange c t l fit ∙ l) (bytes-putChange c t bytes) (change-formed t l bytes F c (ok .0))
+    changes-formed cs (putChange c t) (long-still t (putChange c t) (length-putChange c t l fit) l) (bytes-putChange c t bytes) (change-formed t l bytes F c (ok .0))
     (subst (LawfulAll cs) (sym (decode-put c t l fit)) (ok .1))
 
-pub step-formed : (t : List ℕ) → length t ≡ tableLength → Bytes t → T (wellFormed t) → (e : Event) → T (wellFormed (putChanges (step (decode t) e .changes) t))
+pub step-formed : (t : List ℕ) → Long t → Bytes t → T (wellFormed t) → (e : Event) → T (wellFormed (putChanges (step (decode t) e .changes) t))
 step-formed t l bytes w e =
     let F = formed t w in
     well-formed (putChanges (step (decode t) e .changes) t)

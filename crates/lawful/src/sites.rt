@@ -1,33 +1,14 @@
-// A site's part of the table, 13,056 bytes: 4 nodes, and for each partition 3 outgoing channels. Each function lends the node or the channel that it
-// is about. In order: a node, a channel, the channels of a partition, the site. Assumes nothing.
+// A site's part of the table, 13,056 bytes: 4 nodes, and for each partition 3 outgoing channels. In order: the
+// channels of a partition, the site.
 ghost use mathlib.Core.Path.{_≡_};
 ghost use Prim.Native.Nat.{_<_};
 ghost use lib.ListN.{length};
 ghost use Rattle.codec.specs.Below.{allBelow};
-ghost use Rattle.table.specs.Parts.{nodeOf, channelOf};
-ghost use Rattle.lawful.specs.WellFormed.{nodeFormed, channelFormed, siteFormed};
+ghost use Rattle.table.specs.Parts.{channelOf};
+ghost use Rattle.lawful.specs.WellFormed.{channelFormed, siteFormed};
 use crate::channels;
 use crate::nodes;
-
-// Node p of site m.
-pub fn node_at(site: &[u8], sites: u8, parts: u8, m: u8, p: u8) -> bool
-    requires { ⌜ (length (now site) ≡ 13056) × (0 < parts) × (p < 4) ⌝ }
-    ensures { λ r. ⌜ r ≡ nodeFormed (record { sites = sites; parts = parts }) m p (nodeOf (now (site .entry)) p) ⌝ }
-{
-    let off = 1856 * (p as usize);
-    let end = off + 1856;
-    nodes::node_formed(&site[off..end], sites, parts, m, p)
-}
-
-// The channel of partition p to the place d.
-pub fn channel_at(site: &[u8], sites: u8, parts: u8, m: u8, p: u8, d: u8) -> bool
-    requires { ⌜ (length (now site) ≡ 13056) × (0 < parts) × (p < 4) × (d < 3) ⌝ }
-    ensures { λ r. ⌜ r ≡ channelFormed (record { sites = sites; parts = parts }) m p d (channelOf (now (site .entry)) p d) ⌝ }
-{
-    let off = 7424 + 464 * (3 * (p as usize) + d as usize);
-    let end = off + 464;
-    channels::channel_formed(&site[off..end], sites, parts, m, p, d)
-}
+use table::places;
 
 pub fn channels_formed(site: &[u8], sites: u8, parts: u8, m: u8, p: u8) -> bool
     requires { ⌜ (length (now site) ≡ 13056) × (0 < parts) × (p < 4) ⌝ }
@@ -35,7 +16,14 @@ pub fn channels_formed(site: &[u8], sites: u8, parts: u8, m: u8, p: u8) -> bool
 {
     let mut d = 0;
     while d < 3 {
-        if !channel_at(site, sites, parts, m, p, d) {
+        if !channels::channel_formed(
+            places::channel_of(site, p, d as usize),
+            sites,
+            parts,
+            m,
+            p,
+            d,
+        ) {
             return false;
         }
         d += 1;
@@ -50,7 +38,7 @@ pub fn site_formed(site: &[u8], sites: u8, parts: u8, m: u8) -> bool
 {
     let mut p = 0;
     while p < 4 {
-        if !node_at(site, sites, parts, m, p) {
+        if !nodes::node_formed(places::node_of(site, p), sites, parts, m, p) {
             return false;
         }
         if !channels_formed(site, sites, parts, m, p) {

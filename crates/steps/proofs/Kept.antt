@@ -1,4 +1,4 @@
--- A piece on a sound table by its length; that it leaves the table sound; and runs, one piece more as the code counts. Assumes nothing.
+-- A piece on a sound table by its length; that it leaves the table sound; and runs, one piece more as the code counts.
 use Prim.Native.Nat.{ℕ, _+_, _*_}
 use native.Mathlib.Numerals.{add-one}
 use mathlib.Core.Path.{_≡_, refl, sym, ap, subst, _∙_}
@@ -26,15 +26,15 @@ module _ (t e : List ℕ) where
   unfolding pieceCall
   piece-short d = rw (ne-eqb (length e) 32 d)
 
-  pub step-keeps : Sound t → Sound (stepOn t e .table)
+  pub step-keeps : (n : ℕ) → Sound n t → Sound n (stepOn t e .table)
   unfolding stepOn
-  step-keeps S =
-      cond-elim (λ (c : Called). Sound (c .table)) (codeLawful e)
-      (λ a. cond-elim (λ (c : Called). Sound (c .table)) (unusedZero e) (λ b. step-sound t S (eventOf e)) (λ b. S)) (λ a. S)
+  step-keeps n S =
+      cond-elim (λ (c : Called). Sound n (c .table)) (codeLawful e)
+      (λ a. cond-elim (λ (c : Called). Sound n (c .table)) (unusedZero e) (λ b. step-sound n t S (eventOf e)) (λ b. S)) (λ a. S)
 
-  pub piece-keeps : Sound t → Sound (pieceCall t e .table)
+  pub piece-keeps : (n : ℕ) → Sound n t → Sound n (pieceCall t e .table)
   unfolding pieceCall
-  piece-keeps S = cond-elim (λ (c : Called). Sound (c .table)) (eqb (length e) 32) (λ a. step-keeps S) (λ a. S)
+  piece-keeps n S = cond-elim (λ (c : Called). Sound n (c .table)) (eqb (length e) 32) (λ a. step-keeps n S) (λ a. S)
 
 pub turned-by : (i : ℕ) (t es b e u w : List ℕ) (a : Answer) → e ≡ pieceOf es i → gives a u ≡ pieceCall t e → w ≡ putAnswer b (16 * i) a → ran u w ≡ turned pieceCall i t es b
 unfolding turned
@@ -53,9 +53,9 @@ module _ (call : (table event : List ℕ) → Called) (t es b : List ℕ) where
   unfolding runBy
   run-step i u v u′ v′ r s = rw (add-one i) (s ∙ ap (λ x. turned call i (x .table) es (x .answers)) r)
 
-pub turned-sound : (t es b : List ℕ) (i : ℕ) (u w : List ℕ) → ran u w ≡ turned pieceCall i t es b → Sound t → Sound u
+pub turned-sound : (n : ℕ) (t es b : List ℕ) (i : ℕ) (u w : List ℕ) → ran u w ≡ turned pieceCall i t es b → Sound n t → Sound n u
 unfolding turned
-turned-sound t es b i u w r S = subst Sound (sym (ap (λ x. x .table) r)) (piece-keeps t (pieceOf es i) S)
+turned-sound n t es b i u w r S = subst (Sound n) (sym (ap (λ x. x .table) r)) (piece-keeps t (pieceOf es i) n S)
 
 -- ---- a table that is refused
 

@@ -104,13 +104,13 @@ fields-lawful-step t e l f =
 
 -- ---- what is decided is carried out
 
-module _ (t e : List ℕ) (d : Decided) (S : Sound t) (l : T (codeLawful e)) (f : T (fieldsTest t e)) (says : outcomeOf d ≡ answered (decode t) (eventOf e)) where
+module _ (n : ℕ) (t e : List ℕ) (d : Decided) (S : Sound n t) (l : T (codeLawful e)) (f : T (fieldsTest t e)) (says : outcomeOf d ≡ answered (decode t) (eventOf e)) where
   decided-step : step (decode t) (eventOf e) ≡ outcomeOf d
   decided-step = step-met (decode t) (eventOf e) (unfold decode in (and-yes (unusedZero e) (met (ranges (settingIn t) (eventOf e))) f .1)) ∙ sym says
 
   pub decided-fits : FitsAll (changesOf (d .effect) (d .carried) (d .session)) t
   unfolding outcomeOf
-  decided-fits = subst (λ o. FitsAll (o .changes) t) decided-step (step-fits t (S .size) (S .bytes) (S .formed) (eventOf e))
+  decided-fits = subst (λ o. FitsAll (o .changes) t) decided-step (step-fits t (S .long) (S .bytes) (S .formed) (eventOf e))
 
   pub decided-waits : Waits (changesOf (d .effect) (d .carried) (d .session)) t
   unfolding outcomeOf

@@ -1,10 +1,11 @@
 // A step on a table known to be well formed: the protocol's decision, carried out; and many of them. In order: what is decided, by the event's code, and
-// the step. Assumes nothing.
+// the step.
 ghost use mathlib.Core.Path.{_≡_};
 ghost use mathlib.Core.Bool.{true};
 ghost use lib.Dec.{T};
 ghost use lib.ListN.{length};
 ghost use Rattle.event.specs.Event.{codeLawful, eventOf};
+ghost use Rattle.table.specs.Parts.{Long};
 ghost use Rattle.table.specs.Decode.{decode};
 ghost use Rattle.lawful.specs.WellFormed.{wellFormed};
 ghost use Rattle.outcome.specs.Decided.{outcomeOf};
@@ -22,7 +23,7 @@ pub mod runs;
 
 // What the protocol decides of an event whose code and fields are lawful.
 pub fn decide(t: &[u8], e: &[u8]) -> Decided
-    requires { ⌜ (length (now t) ≡ 57344) × T (wellFormed (now t)) × (length (now e) ≡ 32) × (codeLawful (now e) ≡ true) × (fieldsTest (now t) (now e) ≡ true) ⌝ }
+    requires { ⌜ Long (now t) × T (wellFormed (now t)) × (length (now e) ≡ 32) × (codeLawful (now e) ≡ true) × (fieldsTest (now t) (now e) ≡ true) ⌝ }
     ensures { λ r. ⌜ outcomeOf r ≡ answered (decode (now (t .entry))) (eventOf (now (e .entry))) ⌝ }
 {
     let x = event::load_fields(e);
@@ -50,7 +51,7 @@ pub fn decide(t: &[u8], e: &[u8]) -> Decided
 }
 
 pub fn step(t: &mut [u8], e: &[u8]) -> Answer
-    requires { ⌜ (length (now t) ≡ 57344) × T (wellFormed (now t)) × (length (now e) ≡ 32) ⌝ }
+    requires { ⌜ Long (now t) × T (wellFormed (now t)) × (length (now e) ≡ 32) ⌝ }
     ensures { λ r. ⌜ gives r (now (t .exit)) ≡ stepOn (now (t .entry)) (now (e .entry)) ⌝ }
 {
     if !event::code_lawful(e) {

@@ -1,11 +1,12 @@
 // Many events on a table known to be well formed: it stays so, so it is not checked again. The reader gives each event in turn. In order: one piece, and
-// all; the same of a table that is refused. Assumes nothing.
+// all; the same of a table that is refused.
 ghost use mathlib.Core.Path.{_≡_};
 ghost use Prim.Native.Nat.{ℕ, _+_, _*_, _≤_};
 ghost use mathlib.Core.Bool.{cond};
 ghost use mathlib.Core.List.{List};
 ghost use lib.Dec.{T, eqb};
 ghost use lib.ListN.{length};
+ghost use Rattle.table.specs.Parts.{Long};
 ghost use Rattle.lawful.specs.WellFormed.{wellFormed};
 ghost use Rattle.steps.specs.Step.{gives};
 ghost use Rattle.steps.specs.Run.{ran, turned, runBy, pieceCall, turnedAway};
@@ -14,7 +15,7 @@ use protocol::Answer;
 
 // A piece of the event bytes: all but the last have 32 bytes.
 pub fn piece(t: &mut [u8], e: &[u8]) -> Answer
-    requires { ⌜ (length (now t) ≡ 57344) × T (wellFormed (now t)) ⌝ }
+    requires { ⌜ Long (now t) × T (wellFormed (now t)) ⌝ }
     ensures { λ r. ⌜ gives r (now (t .exit)) ≡ pieceCall (now (t .entry)) (now (e .entry)) ⌝ }
 {
     if e.len() == 32 {
@@ -26,7 +27,7 @@ pub fn piece(t: &mut [u8], e: &[u8]) -> Answer
 
 // Piece i, and its answer.
 pub fn turn(t: &mut [u8], es: &[u8], b: &mut [u8], i: usize)
-    requires { ⌜ (length (now t) ≡ 57344) × T (wellFormed (now t)) × (16 * i + 16 ≤ length (now b)) ⌝ }
+    requires { ⌜ Long (now t) × T (wellFormed (now t)) × (16 * i + 16 ≤ length (now b)) ⌝ }
     ensures { λ _. ⌜ ran (now (t .exit)) (now (b .exit)) ≡ turned pieceCall i (now (t .entry)) (now (es .entry)) (now (b .entry)) ⌝ }
 {
     let a = piece(t, reader::event_of(es, i));
@@ -35,7 +36,7 @@ pub fn turn(t: &mut [u8], es: &[u8], b: &mut [u8], i: usize)
 
 // The first n pieces.
 pub fn run(t: &mut [u8], es: &[u8], b: &mut [u8], n: usize)
-    requires { ⌜ (length (now t) ≡ 57344) × T (wellFormed (now t)) × (16 * n ≤ length (now b)) ⌝ }
+    requires { ⌜ Long (now t) × T (wellFormed (now t)) × (16 * n ≤ length (now b)) ⌝ }
     ensures { λ _. ⌜ ran (now (t .exit)) (now (b .exit)) ≡ runBy pieceCall n (now (t .entry)) (now (es .entry)) (now (b .entry)) ⌝ }
 {
     let mut i = 0;

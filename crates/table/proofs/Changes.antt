@@ -1,5 +1,5 @@
 -- The table's parts after each change. In order: choices, places of channels, which channels a change is done to, a site that sends, then the nodes
--- and channels of the table after a change of one node, of one channel, and after a node published. Assumes nothing.
+-- and channels of the table after a change of one node, of one channel, and after a node published.
 use Prim.Native.Nat.{ℕ, zero, suc, _-_, _≤_, _<_}
 use native.Mathlib.Decide.{ℕ-discrete, decLt}
 use native.Mathlib.Omega.{arith}
@@ -17,7 +17,7 @@ use Rattle.protocol.specs.Change.{at}
 use Rattle.parts.specs.Node.{published}
 use Rattle.parts.specs.Channel.{pushed}
 use Rattle.parts.proofs.Lengths.{length-published, length-pushed}
-use Rattle.table.specs.Parts.{tableLength, placeOf, siteOf, nodeOf, channelOf, onSite, onNode, onChannel}
+use Rattle.table.specs.Parts.{Long, placeOf, siteOf, nodeOf, channelOf, onSite, onNode, onChannel}
 use Rattle.table.specs.Put.{sentTo, publishedOn}
 use Rattle.table.proofs.Parts.{length-onNode, node-onNode, channel-onNode, length-onChannel, channel-onChannel, node-onChannel, read-onSite}
 
@@ -185,7 +185,7 @@ module _ (n m p : ℕ) (x : Msg) (s : List ℕ) (l : length s ≡ 13056) (h : p 
 
 -- ---- the table's nodes and channels after f was done to node (m, p)
 
-module _ (t : List ℕ) (m p : ℕ) (f : List ℕ → List ℕ) (l : length t ≡ tableLength) (h : m < 4) (h′ : p < 4) (keeps : Keeps 1856 f) where
+module _ (t : List ℕ) (m p : ℕ) (f : List ℕ → List ℕ) (l : Long t) (h : m < 4) (h′ : p < 4) (keeps : Keeps 1856 f) where
   pub onNode-keeps : Keeps 13056 (onNode p f)
   onNode-keeps s e = length-onNode s p f e h′ keeps ∙ e
 
@@ -204,7 +204,7 @@ module _ (t : List ℕ) (m p : ℕ) (f : List ℕ → List ℕ) (l : length t �
 
 -- ---- after f was done to channel (i, p, d)
 
-module _ (t : List ℕ) (i p d : ℕ) (f : List ℕ → List ℕ) (l : length t ≡ tableLength) (h : i < 4) (h′ : p < 4) (h″ : d < 3) (keeps : Keeps 464 f) where
+module _ (t : List ℕ) (i p d : ℕ) (f : List ℕ → List ℕ) (l : Long t) (h : i < 4) (h′ : p < 4) (h″ : d < 3) (keeps : Keeps 464 f) where
   pub onChannel-keeps : Keeps 13056 (onChannel p d f)
   onChannel-keeps s e = length-onChannel s p d f e h′ h″ keeps ∙ e
 
@@ -223,7 +223,7 @@ module _ (t : List ℕ) (i p d : ℕ) (f : List ℕ → List ℕ) (l : length t 
 
 -- ---- after node (m, p) published
 
-module _ (t : List ℕ) (n m p : ℕ) (x : Msg) (l : length t ≡ tableLength) (h : m < 4) (h′ : p < 4) (few : n ≤ 3) where
+module _ (t : List ℕ) (n m p : ℕ) (x : Msg) (l : Long t) (h : m < 4) (h′ : p < 4) (few : n ≤ 3) where
   pub publishedOn-keeps : Keeps 13056 (publishedOn n m p x)
   publishedOn-keeps s e = length-publishedOn n m p x s e h′ few
 

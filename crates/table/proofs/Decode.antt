@@ -1,5 +1,5 @@
 -- What a table says after a change is what the change makes of what it said. In order: the state field by field, each of the four changes, then the
--- laws for any change and for many. That changes keep bytes is in Bytes; a fresh table is in Fresh. Assumes nothing.
+-- laws for any change and for many. That changes keep bytes is in Bytes; a fresh table is in Fresh.
 use Prim.Native.Nat.{ℕ, _-_, _≤_, _<_}
 use native.Mathlib.Omega.{arith}
 use mathlib.Core.Path.{_≡_, refl, sym, ap, _∙_}
@@ -23,11 +23,11 @@ use Rattle.parts.proofs.Lengths.{length-clockSet, length-received, length-poppe
 use Rattle.parts.proofs.NodeBytes.{clock-clockSet, heard-clockSet, store-clockSet, clock-published, heard-published, store-published, clock-received, heard-received, store-received}
 use Rattle.parts.proofs.ChannelBytes.{queue-pushed, queue-popped}
 use Rattle.parts.proofs.SessionBytes.{session-putSession}
-use Rattle.table.specs.Parts.{tableLength, placeOf, sessionOf, siteOf, nodeOf, channelOf, onSite, onNode, onChannel}
+use Rattle.table.specs.Parts.{Long, placeOf, sessionOf, siteOf, nodeOf, channelOf, onSite, onNode, onChannel}
 use Rattle.table.specs.Decode.{settingIn, decode}
 use Rattle.table.specs.Put.{publishedOn, putChange, putChanges}
 use Rattle.table.specs.Fits.{FitsPublish, FitsReceive, Fits, FitsAll}
-use Rattle.table.proofs.Parts.{length-session, length-onSession, session-onSession, site-onSession, load-onSession, length-onSite, session-onSite, load-onSite, bytes-nodeOf, bytes-channelOf, length-nodeOf, length-channelOf}
+use Rattle.table.proofs.Parts.{long-still, length-session, length-onSession, session-onSession, site-onSession, load-onSession, length-onSite, session-onSite, load-onSite, bytes-nodeOf, bytes-channelOf, length-nodeOf, length-channelOf}
 use Rattle.table.proofs.Changes.{at-yes, sent, sentBy, sentBy-yes, sent-sentBy, taken, takenFrom, taken-takenFrom, place-lt, onNode-keeps, node-atNode, channel-atNode, onChannel-keeps, node-atChannel, channel-atChannel, publishedOn-keeps, node-atPublish, channel-atPublish}
 
 -- ---- a change keeps a thing's length
@@ -112,7 +112,7 @@ module _ (t t′ : List ℕ) (f : List ℕ → List ℕ) (g : List Msg → List 
 
 -- ---- what no change of site m touches
 
-module _ (t : List ℕ) (m : ℕ) (f : List ℕ → List ℕ) (l : length t ≡ tableLength) (h : m < 4) (keeps : Keeps 13056 f) where
+module _ (t : List ℕ) (m : ℕ) (f : List ℕ → List ℕ) (l : Long t) (h : m < 4) (keeps : Keeps 13056 f) where
   setting-site : settingIn (onSite m f t) ≡ settingIn t
   unfolding settingIn
   setting-site = λ z. record { sites = load-onSite t m f l h keeps 1 0 (omega arith) z; parts = load-onSite t m f l h keeps 1 1 (omega arith) z }
@@ -122,7 +122,7 @@ module _ (t : List ℕ) (m : ℕ) (f : List ℕ → List ℕ) (l : length t ≡ 
 
 -- ---- a session is set
 
-module _ (s : ℕ) (x : Session) (t : List ℕ) (l : length t ≡ tableLength) (fit : Fits (SetSession s x) t) where
+module _ (s : ℕ) (x : Session) (t : List ℕ) (l : Long t) (fit : Fits (SetSession s x) t) where
   length-setSession : length (putChange (SetSession s x) t) ≡ length t
   unfolding putChange
   length-setSession = length-onSession t s (putSession x) l (fit .0) (putSession-keeps x)
@@ -159,7 +159,7 @@ module _ (s : ℕ) (x : Session) (t : List ℕ) (l : length t ≡ tableLength) (
 
 -- ---- a clock is set
 
-module _ (m p c : ℕ) (t : List ℕ) (l : length t ≡ tableLength) (fit : Fits (SetClock m p c) t) where
+module _ (m p c : ℕ) (t : List ℕ) (l : Long t) (fit : Fits (SetClock m p c) t) where
   keeps-setClock : Keeps 13056 (onNode p (clockSet c))
   keeps-setClock = onNode-keeps t m p (clockSet c) l (fit .0) (fit .1) (clockSet-keeps c)
 
@@ -187,7 +187,7 @@ module _ (m p c : ℕ) (t : List ℕ) (l : length t ≡ tableLength) (fit : Fits
 
 -- ---- a node publishes
 
-module _ (m p : ℕ) (x : Msg) (t : List ℕ) (l : length t ≡ tableLength) (fit : FitsPublish m p x t) where
+module _ (m p : ℕ) (x : Msg) (t : List ℕ) (l : Long t) (fit : FitsPublish m p x t) where
   few : load 1 t 0 - 1 ≤ 3
   few = omega (arith, fit .sites)
 
@@ -238,46 +238,49 @@ module _ (m p : ℕ) (x : Msg) (t : List ℕ) (l : length t ≡ tableLength) (fi
 
 -- ---- a node receives: first it has the message, then the message leaves the channel
 
-module _ (i m p : ℕ) (x : Msg) (t : List ℕ) (l : length t ≡ tableLength) (fit : FitsReceive i m p x t) where
+module _ (i m p : ℕ) (x : Msg) (t : List ℕ) (l : Long t) (fit : FitsReceive i m p x t) where
   near : placeOf i m < 3
   near = place-lt 4 i m (fit .source) (fit .site) (fit .other)
 
   keeps-node : Keeps 13056 (onNode p (received i x))
   keeps-node = onNode-keeps t m p (received i x) l (fit .site) (fit .part) (received-keeps i x)
 
-  length-node : length (onSite m (onNode p (received i x)) t) ≡ tableLength
-  length-node = length-onSite t m (onNode p (received i x)) l (fit .site) keeps-node ∙ l
+  length-node : length (onSite m (onNode p (received i x)) t) ≡ length t
+  length-node = length-onSite t m (onNode p (received i x)) l (fit .site) keeps-node
+
+  long-node : Long (onSite m (onNode p (received i x)) t)
+  long-node = long-still t (onSite m (onNode p (received i x)) t) length-node l
 
   keeps-channel : Keeps 13056 (onChannel p (placeOf i m) popped)
-  keeps-channel = onChannel-keeps (onSite m (onNode p (received i x)) t) i p (placeOf i m) popped length-node (fit .source) (fit .part) near popped-keeps
+  keeps-channel = onChannel-keeps (onSite m (onNode p (received i x)) t) i p (placeOf i m) popped long-node (fit .source) (fit .part) near popped-keeps
 
   length-receive : length (putChange (Receive i m p x) t) ≡ length t
   unfolding putChange
   length-receive =
-      length-onSite (onSite m (onNode p (received i x)) t) i (onChannel p (placeOf i m) popped) length-node (fit .source) keeps-channel ∙ length-node ∙ sym l
+      length-onSite (onSite m (onNode p (received i x)) t) i (onChannel p (placeOf i m) popped) long-node (fit .source) keeps-channel ∙ length-node
 
   setting-receive : settingIn (putChange (Receive i m p x) t) ≡ settingIn t
   unfolding putChange
   setting-receive =
-      setting-site (onSite m (onNode p (received i x)) t) i (onChannel p (placeOf i m) popped) length-node (fit .source) keeps-channel
+      setting-site (onSite m (onNode p (received i x)) t) i (onChannel p (placeOf i m) popped) long-node (fit .source) keeps-channel
       ∙ setting-site t m (onNode p (received i x)) l (fit .site) keeps-node
 
   session-receive : (s : ℕ) → sessionIn (sessionOf (putChange (Receive i m p x) t) s) ≡ sessionIn (sessionOf t s)
   unfolding putChange
   session-receive s =
-      sessions-site (onSite m (onNode p (received i x)) t) i (onChannel p (placeOf i m) popped) length-node (fit .source) keeps-channel s
+      sessions-site (onSite m (onNode p (received i x)) t) i (onChannel p (placeOf i m) popped) long-node (fit .source) keeps-channel s
       ∙ sessions-site t m (onNode p (received i x)) l (fit .site) keeps-node s
 
   node-receive : (j q : ℕ) → nodeOf (siteOf (putChange (Receive i m p x) t) j) q ≡ cond (at m p j q) (received i x (nodeOf (siteOf t j) q)) (nodeOf (siteOf t j) q)
   unfolding putChange
   node-receive j q =
-      node-atChannel (onSite m (onNode p (received i x)) t) i p (placeOf i m) popped length-node (fit .source) (fit .part) near popped-keeps j q
+      node-atChannel (onSite m (onNode p (received i x)) t) i p (placeOf i m) popped long-node (fit .source) (fit .part) near popped-keeps j q
       ∙ node-atNode t m p (received i x) l (fit .site) (fit .part) (received-keeps i x) j q
 
   channel-receive : (h q e : ℕ) → channelOf (siteOf (putChange (Receive i m p x) t) h) q e ≡ cond (taken i m p h q e) (popped (channelOf (siteOf t h) q e)) (channelOf (siteOf t h) q e)
   unfolding putChange
   channel-receive h q e =
-      channel-atChannel (onSite m (onNode p (received i x)) t) i p (placeOf i m) popped length-node (fit .source) (fit .part) near popped-keeps h q e
+      channel-atChannel (onSite m (onNode p (received i x)) t) i p (placeOf i m) popped long-node (fit .source) (fit .part) near popped-keeps h q e
       ∙ ap (λ c. cond (taken i m p h q e) (popped c) c) (channel-atNode t m p (received i x) l (fit .site) (fit .part) (received-keeps i x) h q e)
 
   takes : (h q e : ℕ) → T (taken i m p h q e) → queueIn (popped (channelOf (siteOf t h) q e)) ≡ tail (queueIn (channelOf (siteOf t h) q e))
@@ -308,37 +311,37 @@ module _ (i m p : ℕ) (x : Msg) (t : List ℕ) (l : length t ≡ tableLength) (
 
 -- ---- any change, and many
 
-pub length-putChange : (c : Change) (t : List ℕ) → length t ≡ tableLength → Fits c t → length (putChange c t) ≡ length t
+pub length-putChange : (c : Change) (t : List ℕ) → Long t → Fits c t → length (putChange c t) ≡ length t
 length-putChange (SetSession s x) = length-setSession s x
 length-putChange (SetClock m p c) = length-setClock m p c
 length-putChange (Publish m p x) = length-publish m p x
 length-putChange (Receive i m p x) = length-receive i m p x
 
-pub setting-put : (c : Change) (t : List ℕ) → length t ≡ tableLength → Fits c t → settingIn (putChange c t) ≡ settingIn t
+pub setting-put : (c : Change) (t : List ℕ) → Long t → Fits c t → settingIn (putChange c t) ≡ settingIn t
 setting-put (SetSession s x) = setting-setSession s x
 setting-put (SetClock m p c) = setting-setClock m p c
 setting-put (Publish m p x) = setting-publish m p x
 setting-put (Receive i m p x) = setting-receive i m p x
 
-pub decode-put : (c : Change) (t : List ℕ) → length t ≡ tableLength → Fits c t → decode (putChange c t) ≡ apply c (decode t)
+pub decode-put : (c : Change) (t : List ℕ) → Long t → Fits c t → decode (putChange c t) ≡ apply c (decode t)
 decode-put (SetSession s x) = decode-setSession s x
 decode-put (SetClock m p c) = decode-setClock m p c
 decode-put (Publish m p x) = decode-publish m p x
 decode-put (Receive i m p x) = decode-receive i m p x
 
-pub length-putChanges : (cs : List Change) (t : List ℕ) → length t ≡ tableLength → FitsAll cs t → length (putChanges cs t) ≡ length t
+pub length-putChanges : (cs : List Change) (t : List ℕ) → Long t → FitsAll cs t → length (putChanges cs t) ≡ length t
 unfolding putChanges
 length-putChanges [] t l fit = refl
 length-putChanges (c ∷ cs) t l fit =
-    let e = length-putChange c t l (fit .0) in length-putChanges cs (putChange c t) (e ∙ l) (fit .1) ∙ e
+    let e = length-putChange c t l (fit .0) in length-putChanges cs (putChange c t) (long-still t (putChange c t) e l) (fit .1) ∙ e
 
-pub setting-puts : (cs : List Change) (t : List ℕ) → length t ≡ tableLength → FitsAll cs t → settingIn (putChanges cs t) ≡ settingIn t
+pub setting-puts : (cs : List Change) (t : List ℕ) → Long t → FitsAll cs t → settingIn (putChanges cs t) ≡ settingIn t
 unfolding putChanges
 setting-puts [] t l fit = refl
-setting-puts (c ∷ cs) t l fit = setting-puts cs (putChange c t) (length-putChange c t l (fit .0) ∙ l) (fit .1) ∙ setting-put c t l (fit .0)
+setting-puts (c ∷ cs) t l fit = setting-puts cs (putChange c t) (long-still t (putChange c t) (length-putChange c t l (fit .0)) l) (fit .1) ∙ setting-put c t l (fit .0)
 
-pub decode-puts : (cs : List Change) (t : List ℕ) → length t ≡ tableLength → FitsAll cs t → decode (putChanges cs t) ≡ applyAll cs (decode t)
+pub decode-puts : (cs : List Change) (t : List ℕ) → Long t → FitsAll cs t → decode (putChanges cs t) ≡ applyAll cs (decode t)
 unfolding putChanges applyAll
 decode-puts [] t l fit = refl
 decode-puts (c ∷ cs) t l fit =
-    decode-puts cs (putChange c t) (length-putChange c t l (fit .0) ∙ l) (fit .1) ∙ ap (applyAll cs) (decode-put c t l (fit .0))
+    decode-puts cs (putChange c t) (long-still t (putChange c t) (length-putChange c t l (fit .0)) l) (fit .1) ∙ ap (applyAll cs) (decode-put c t l (fit .0))

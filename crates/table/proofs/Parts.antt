@@ -1,6 +1,6 @@
--- The laws of the table's parts: where no two things overlap. In order: any part that is there or not; for each kind of thing its place and length,
+-- The laws of the table's parts: where no two things overlap. In order: a table that is long enough; any part that is there or not; for each kind of thing its place and length,
 -- that a change of one keeps the length of the whole, what each thing of the kind is after it, and that things of another kind are as they were;
--- what holds of each byte; and nodes and channels of the whole table. Assumes nothing.
+-- what holds of each byte; and nodes and channels of the whole table.
 use Prim.Native.Nat.{ℕ, _+_, _≤_, _<_}
 use native.Mathlib.Decide.{decLt}
 use native.Mathlib.Omega.{arith}
@@ -19,7 +19,11 @@ use Rattle.codec.specs.Le.{load, Bytes, Apart}
 use Rattle.codec.specs.Part.{partOf, onPart, Keeps}
 use Rattle.codec.proofs.Le.{load-ext}
 use Rattle.codec.proofs.Part.{length-part, length-onPart, getD-onPart, part-onPart, part-other}
-use Rattle.table.specs.Parts.{tableLength, sessionAt, siteAt, nodeAt, channelAt, sessionOf, siteOf, nodeOf, channelOf, onSession, onSite, onNode, onChannel}
+use Rattle.table.specs.Parts.{Long, sessionAt, siteAt, nodeAt, channelAt, sessionOf, siteOf, nodeOf, channelOf, onSession, onSite, onNode, onChannel}
+
+-- a table of the same length is as long
+pub long-still : (t u : List ℕ) → length u ≡ length t → Long t → Long u
+long-still t u e l = omega arith
 
 -- ---- any part, there where b holds, after f was done to the k bytes from `off`
 
@@ -55,10 +59,10 @@ pub session-is : (t : List ℕ) (s : ℕ) → s < 16 → sessionOf t s ≡ partO
 unfolding sessionOf
 session-is t s h = rw (lt-ltb s 16 h)
 
-pub length-session : (t : List ℕ) (s : ℕ) → length t ≡ tableLength → s < 16 → length (sessionOf t s) ≡ 128
+pub length-session : (t : List ℕ) (s : ℕ) → Long t → s < 16 → length (sessionOf t s) ≡ 128
 length-session t s l h = rw (session-is t s h) (length-part (sessionAt s) 128 t (omega arith))
 
-module _ (t : List ℕ) (s : ℕ) (f : List ℕ → List ℕ) (l : length t ≡ tableLength) (h : s < 16) (keeps : Keeps 128 f) where
+module _ (t : List ℕ) (s : ℕ) (f : List ℕ → List ℕ) (l : Long t) (h : s < 16) (keeps : Keeps 128 f) where
   pub length-onSession : length (onSession s f t) ≡ length t
   unfolding onSession
   length-onSession = length-onPart (sessionAt s) 128 f t (omega arith) keeps
@@ -84,10 +88,10 @@ pub site-is : (t : List ℕ) (m : ℕ) → m < 4 → siteOf t m ≡ partOf (site
 unfolding siteOf
 site-is t m h = rw (lt-ltb m 4 h)
 
-pub length-site : (t : List ℕ) (m : ℕ) → length t ≡ tableLength → m < 4 → length (siteOf t m) ≡ 13056
+pub length-site : (t : List ℕ) (m : ℕ) → Long t → m < 4 → length (siteOf t m) ≡ 13056
 length-site t m l h = rw (site-is t m h) (length-part (siteAt m) 13056 t (omega arith))
 
-module _ (t : List ℕ) (m : ℕ) (f : List ℕ → List ℕ) (l : length t ≡ tableLength) (h : m < 4) (keeps : Keeps 13056 f) where
+module _ (t : List ℕ) (m : ℕ) (f : List ℕ → List ℕ) (l : Long t) (h : m < 4) (keeps : Keeps 13056 f) where
   pub length-onSite : length (onSite m f t) ≡ length t
   unfolding onSite
   length-onSite = length-onPart (siteAt m) 13056 f t (omega arith) keeps
@@ -224,7 +228,7 @@ module _ (t : List ℕ) (bytes : Bytes t) where
 
 -- ---- nodes and channels of the whole table
 
-module _ (t : List ℕ) (m p : ℕ) (l : length t ≡ tableLength) (h : m < 4) (h′ : p < 4) where
+module _ (t : List ℕ) (m p : ℕ) (l : Long t) (h : m < 4) (h′ : p < 4) where
   pub length-nodeOf : length (nodeOf (siteOf t m) p) ≡ 1856
   length-nodeOf = length-node (siteOf t m) p (length-site t m l h) h′
 
@@ -232,7 +236,7 @@ module _ (t : List ℕ) (m p : ℕ) (l : length t ≡ tableLength) (h : m < 4) (
   length-channelOf d h″ = length-channel (siteOf t m) p d (length-site t m l h) h′ h″
 
 -- what X reads of a site after g was done to site m
-pub read-onSite {ℓ} : {A : Type ℓ} (X : List ℕ → A) (t : List ℕ) (m : ℕ) (g : List ℕ → List ℕ) → length t ≡ tableLength → m < 4 → Keeps 13056 g → (j : ℕ) (u : A)
+pub read-onSite {ℓ} : {A : Type ℓ} (X : List ℕ → A) (t : List ℕ) (m : ℕ) (g : List ℕ → List ℕ) → Long t → m < 4 → Keeps 13056 g → (j : ℕ) (u : A)
     → (length (siteOf t j) ≡ 13056 → X (g (siteOf t j)) ≡ u) → X (siteOf (onSite m g t) j) ≡ cond (eqb j m) u (X (siteOf t j))
 read-onSite X t m g l h keeps j u e =
     ap X (site-onSite t m g l h keeps j)

@@ -1,15 +1,20 @@
 -- Where each thing stands (docs/LAYOUT.md): a table has a head with 16 sessions, and a part for each of 4 sites, which has 4 nodes and, for each
 -- partition, 3 outgoing channels. `..Of` is a thing's bytes, none where there is no such thing; `on..` is the whole with f done to them.
--- That two things never overlap is proved once, in proofs/Parts. Assumes nothing.
-use Prim.Native.Nat.{ℕ, _+_, _*_, _-_}
+-- That two things never overlap is proved once, in proofs/Parts.
+use Prim.Native.Nat.{ℕ, _+_, _*_, _-_, _≤_}
 use mathlib.Core.Bool.{cond, _&&_}
 use mathlib.Core.List.{List, []}
 use lib.Dec.{ltb}
+use lib.ListN.{length}
 use Rattle.codec.specs.Part.{partOf, onPart}
 
 -- "exactly 57,344 bytes"
 abbrev pub tableLength : ℕ
 tableLength = 57344
+
+-- every place that a step reads or writes lies below 56,320
+abbrev pub Long : List ℕ → Type 0
+Long t = 56320 ≤ length t
 
 abbrev pub sessionAt : ℕ → ℕ
 sessionAt s = 128 + 128 * s

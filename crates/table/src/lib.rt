@@ -1,6 +1,6 @@
 // The table's bytes: where each thing stands, what it says and what changes it. Each thing has a file of its own, and works on that thing's bytes
 // alone. Here are the values that go in and out, and the protocol's four changes on the whole table, each of which lends the part that it is about:
-// a session's, or a site's, which starts in the table's middle. Assumes nothing.
+// a session's, or a site's, which starts in the table's middle.
 ghost use mathlib.Core.Path.{_≡_};
 ghost use Prim.Native.Nat.{_-_, _≤_, _<_};
 ghost use lib.ListN.{length};
@@ -11,13 +11,14 @@ ghost use Rattle.parts.specs.Node.{received};
 ghost use Rattle.parts.specs.Channel.{waitIn, popped};
 ghost use Rattle.parts.specs.Room.{Room};
 ghost use Rattle.parts.specs.Meaning.{asSession};
-ghost use Rattle.table.specs.Parts.{placeOf, siteOf, nodeOf, channelOf, onSite, onNode, onChannel};
+ghost use Rattle.table.specs.Parts.{Long, placeOf, siteOf, nodeOf, channelOf, onSite, onNode, onChannel};
 ghost use Rattle.table.specs.Put.{putChange};
 ghost use Rattle.table.specs.Free.{Free};
 use parts::Session;
 use parts::sessions;
 use record::Letter;
 
+pub mod places;
 pub mod sites;
 
 // The place of site m among the sites other than i: the number of i's channel to m.
@@ -29,57 +30,57 @@ pub fn place_of(i: usize, m: usize) -> usize
 }
 
 pub fn set_session(t: &mut [u8], s: usize, x: Session)
-    requires { ⌜ (length (now t) ≡ 57344) × (s < 16) × (x .count ≤ 8) ⌝ }
+    requires { ⌜ Long (now t) × (s < 16) × (x .count ≤ 8) ⌝ }
     ensures { λ _. ⌜ now (t .exit) ≡ putChange (SetSession s (asSession x)) (now (t .entry)) ⌝ }
 {
-    let off = 128 + 128 * s;
-    let end = off + 128;
+    let off = places::session_at(s);
+    let end = off + places::SESSION;
     sessions::store(&mut t[off..end], x);
 }
 
 pub fn set_clock(t: &mut [u8], m: usize, p: usize, time: u64)
-    requires { ⌜ (length (now t) ≡ 57344) × (m < 4) × (p < 4) ⌝ }
+    requires { ⌜ Long (now t) × (m < 4) × (p < 4) ⌝ }
     ensures { λ _. ⌜ now (t .exit) ≡ putChange (SetClock m p time) (now (t .entry)) ⌝ }
 {
-    let off = 4096 + 13056 * m;
-    let end = off + 13056;
+    let off = places::site_at(m);
+    let end = off + places::SITE;
     sites::set_clock(&mut t[off..end], p, time);
 }
 
 // Node (m, p) makes a message.
 pub fn publish(t: &mut [u8], m: usize, p: usize, x: Letter)
-    requires { ⌜ (length (now t) ≡ 57344) × (1 ≤ load 1 (now t) 0) × (load 1 (now t) 0 ≤ 4) × (m < 4) × (p < 4) × Room (asMessage x) (nodeOf (siteOf (now t) m) p) × Free (load 1 (now t) 0 - 1) p (siteOf (now t) m) ⌝ }
+    requires { ⌜ Long (now t) × (1 ≤ load 1 (now t) 0) × (load 1 (now t) 0 ≤ 4) × (m < 4) × (p < 4) × Room (asMessage x) (nodeOf (siteOf (now t) m) p) × Free (load 1 (now t) 0 - 1) p (siteOf (now t) m) ⌝ }
     ensures { λ _. ⌜ now (t .exit) ≡ putChange (Publish m p (asMessage x)) (now (t .entry)) ⌝ }
 {
     let n = codec::load_u8(t, 0) as usize - 1;
-    let off = 4096 + 13056 * m;
-    let end = off + 13056;
+    let off = places::site_at(m);
+    let end = off + places::SITE;
     sites::publish(&mut t[off..end], n, m, p, x);
 }
 
 // Node (m, p) takes a message of site i in.
 fn take_in(t: &mut [u8], i: usize, m: usize, p: usize, x: Letter)
-    requires { ⌜ (length (now t) ≡ 57344) × (i < 4) × (m < 4) × (p < 4) × Room (asMessage x) (nodeOf (siteOf (now t) m) p) ⌝ }
+    requires { ⌜ Long (now t) × (i < 4) × (m < 4) × (p < 4) × Room (asMessage x) (nodeOf (siteOf (now t) m) p) ⌝ }
     ensures { λ _. ⌜ now (t .exit) ≡ onSite m (onNode p (received i (asMessage x))) (now (t .entry)) ⌝ }
 {
-    let off = 4096 + 13056 * m;
-    let end = off + 13056;
+    let off = places::site_at(m);
+    let end = off + places::SITE;
     sites::receive(&mut t[off..end], i, p, x);
 }
 
 // The message in front leaves channel d of site i at partition p.
 fn take_off(t: &mut [u8], i: usize, p: usize, d: usize)
-    requires { ⌜ (length (now t) ≡ 57344) × (i < 4) × (p < 4) × (d < 3) × (0 < waitIn (channelOf (siteOf (now t) i) p d)) ⌝ }
+    requires { ⌜ Long (now t) × (i < 4) × (p < 4) × (d < 3) × (0 < waitIn (channelOf (siteOf (now t) i) p d)) ⌝ }
     ensures { λ _. ⌜ now (t .exit) ≡ onSite i (onChannel p d popped) (now (t .entry)) ⌝ }
 {
-    let off = 4096 + 13056 * i;
-    let end = off + 13056;
+    let off = places::site_at(i);
+    let end = off + places::SITE;
     sites::pop(&mut t[off..end], p, d);
 }
 
 // Node (m, p) takes the message off the front of the channel from site i.
 pub fn receive(t: &mut [u8], i: usize, m: usize, p: usize, x: Letter)
-    requires { ⌜ (length (now t) ≡ 57344) × (i < 4) × (m < 4) × (p < 4) × (i ≡ m → ⊥) × Room (asMessage x) (nodeOf (siteOf (now t) m) p) × (0 < waitIn (channelOf (siteOf (now t) i) p (placeOf i m))) ⌝ }
+    requires { ⌜ Long (now t) × (i < 4) × (m < 4) × (p < 4) × (i ≡ m → ⊥) × Room (asMessage x) (nodeOf (siteOf (now t) m) p) × (0 < waitIn (channelOf (siteOf (now t) i) p (placeOf i m))) ⌝ }
     ensures { λ _. ⌜ now (t .exit) ≡ putChange (Receive i m p (asMessage x)) (now (t .entry)) ⌝ }
 {
     let d = place_of(i, m);

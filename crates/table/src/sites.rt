@@ -1,5 +1,5 @@
 // A site's part of the table, 13,056 bytes: 4 nodes, and for each partition 3 outgoing channels. Each function lends the node or the channel that it
-// is about. In order: a node, a channel, and a message that goes to every other site. Assumes nothing.
+// is about. In order: a node, a channel, and a message that goes to every other site.
 ghost use mathlib.Core.Path.{_≡_};
 ghost use Prim.Native.Nat.{_≤_, _<_};
 ghost use lib.ListN.{length};
@@ -10,6 +10,7 @@ ghost use Rattle.parts.specs.Room.{Room};
 ghost use Rattle.table.specs.Parts.{nodeOf, channelOf, onNode, onChannel};
 ghost use Rattle.table.specs.Put.{sentTo, publishedOn};
 ghost use Rattle.table.specs.Free.{Free};
+use crate::places;
 use parts::channels;
 use parts::nodes;
 use record::Letter;
@@ -18,8 +19,8 @@ pub fn set_clock(site: &mut [u8], p: usize, t: u64)
     requires { ⌜ (length (now site) ≡ 13056) × (p < 4) ⌝ }
     ensures { λ _. ⌜ now (site .exit) ≡ onNode p (clockSet t) (now (site .entry)) ⌝ }
 {
-    let off = 1856 * p;
-    let end = off + 1856;
+    let off = places::node_at(p);
+    let end = off + places::NODE;
     nodes::set_clock(&mut site[off..end], t);
 }
 
@@ -28,8 +29,8 @@ fn publish_node(site: &mut [u8], m: usize, p: usize, x: Letter)
     requires { ⌜ (length (now site) ≡ 13056) × (m < 4) × (p < 4) × Room (asMessage x) (nodeOf (now site) p) ⌝ }
     ensures { λ _. ⌜ now (site .exit) ≡ onNode p (published m (asMessage x)) (now (site .entry)) ⌝ }
 {
-    let off = 1856 * p;
-    let end = off + 1856;
+    let off = places::node_at(p);
+    let end = off + places::NODE;
     nodes::publish(&mut site[off..end], m, x);
 }
 
@@ -38,8 +39,8 @@ pub fn receive(site: &mut [u8], i: usize, p: usize, x: Letter)
     requires { ⌜ (length (now site) ≡ 13056) × (i < 4) × (p < 4) × Room (asMessage x) (nodeOf (now site) p) ⌝ }
     ensures { λ _. ⌜ now (site .exit) ≡ onNode p (received i (asMessage x)) (now (site .entry)) ⌝ }
 {
-    let off = 1856 * p;
-    let end = off + 1856;
+    let off = places::node_at(p);
+    let end = off + places::NODE;
     nodes::receive(&mut site[off..end], i, x);
 }
 
@@ -47,8 +48,8 @@ pub fn pop(site: &mut [u8], p: usize, d: usize)
     requires { ⌜ (length (now site) ≡ 13056) × (p < 4) × (d < 3) × (0 < waitIn (channelOf (now site) p d)) ⌝ }
     ensures { λ _. ⌜ now (site .exit) ≡ onChannel p d popped (now (site .entry)) ⌝ }
 {
-    let off = 7424 + 464 * (3 * p + d);
-    let end = off + 464;
+    let off = places::channel_at(p, d);
+    let end = off + places::CHANNEL;
     channels::pop(&mut site[off..end]);
 }
 
@@ -56,8 +57,8 @@ fn push(site: &mut [u8], m: u8, p: usize, d: usize, x: Letter)
     requires { ⌜ (length (now site) ≡ 13056) × (p < 4) × (d < 3) × (waitIn (channelOf (now site) p d) < 8) ⌝ }
     ensures { λ _. ⌜ now (site .exit) ≡ onChannel p d (pushed m (asMessage x)) (now (site .entry)) ⌝ }
 {
-    let off = 7424 + 464 * (3 * p + d);
-    let end = off + 464;
+    let off = places::channel_at(p, d);
+    let end = off + places::CHANNEL;
     channels::push(&mut site[off..end], m, x);
 }
 

@@ -1,7 +1,8 @@
--- `archive::run` meets its contract: a table that is refused turns every piece away, and any other is stepped on as well formed. Assumes nothing.
+-- `archive::run` meets its contract: a table that is refused turns every piece away, and any other is stepped on as well formed.
 use mathlib.Core.Path.{sym, ap, _∙_}
 use native.Mathlib.Omega.{arith}
 use borrow.Author.Tests.{not-true, not-false}
+use Rattle.table.specs.Parts.{tableLength}
 use Rattle.lawful.proofs.Steps.{Sound}
 use Rattle.steps.specs.Run.{runBy}
 use Rattle.steps.proofs.Stepped.{is-yes}
@@ -77,8 +78,8 @@ returns-3 c =
     let w = e .before in
     let p = w .before .before .before in
     let a = p .before .before .before .before .args in
-    let S : Sound (a .table .now) =
-    record { size = search needs; bytes = p .before .before .before .slice-known .given; formed = is-yes _ (sym (w .well-formed .ensures) ∙ not-false _ (e .if2 .left)) } in (
+    let S : Sound tableLength (a .table .now) =
+    record { size = search needs; long = search needs; bytes = p .before .before .before .slice-known .given; formed = is-yes _ (sym (w .well-formed .ensures) ∙ not-false _ (e .if2 .left)) } in (
       p .pieces-for .ensures,
       k .run .ensures
           ∙ sym (run-formed (a .table .now) (a .events .now) (a .answers .now) (p .pieces-for .result) S)

@@ -1,4 +1,4 @@
--- `lawful::sessions_formed` meets its contract: the first s sessions passed. Assumes nothing.
+-- `lawful::sessions_formed` meets its contract: the first s sessions passed.
 use mathlib.Core.Path.{_≡_, sym}
 use mathlib.Core.Bool.{true}
 use Prim.Native.Nat.{ℕ, _-_, _≤_}
@@ -21,14 +21,18 @@ abbrev μ-loop : tie.MeasureT-loop
 loop-holds : tie.Need-loop-holds Inv-loop μ-loop
 loop-holds c = (omega arith, λ parts. allBelow-none _)
 
-session-at-requires : tie.Need-session-at-requires Inv-loop μ-loop
-session-at-requires c κs = search needs
+session-requires : tie.Need-session-requires Inv-loop μ-loop
+session-requires c κs = search needs
+
+session-formed-requires : tie.Need-session-formed-requires Inv-loop μ-loop
+session-formed-requires c κs = search needs
 
 returns : tie.Need-returns Inv-loop μ-loop
 returns c =
     λ parts.
-    let no = fails (c .before .session-at .ensures parts) (c .if1 .taken) in
-    sym (allBelow-fails 16 _ (c .before .before .before .loop .s) (omega arith) no)
+    let k = c .before in
+    let no = fails (rw (k .before .session .ensures .0) at (k .session-formed .ensures parts)) (c .if1 .taken) in
+    sym (allBelow-fails 16 _ (k .before .before .before .loop .s) (omega arith) no)
 
 add-s : tie.Need-add-s Inv-loop μ-loop
 add-s c = search needs
@@ -38,8 +42,11 @@ loop-less c = search needs
 
 loop-again : tie.Need-loop-again Inv-loop μ-loop
 loop-again c =
-    let l = c .before .before .before in
-    (omega arith, λ parts. allBelow-more (l .loop .s) _ (l .loop .inv .1 parts) (passes (c .before .session-at .ensures parts) (c .if1 .left)))
+    let k = c .before in
+    let l = k .before .before .before in (
+      omega arith,
+      λ parts. allBelow-more (l .loop .s) _ (l .loop .inv .1 parts) (passes (rw (k .before .session .ensures .0) at (k .session-formed .ensures parts)) (c .if1 .left)),
+    )
 
 returns-2 : tie.Need-returns-2 Inv-loop μ-loop
 returns-2 c =
@@ -55,7 +62,8 @@ sessions-formed-spec =
     Inv-loop
     μ-loop
     loop-holds
-    session-at-requires
+    session-requires
+    session-formed-requires
     returns
     add-s
     loop-less

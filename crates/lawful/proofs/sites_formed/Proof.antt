@@ -1,4 +1,4 @@
--- `lawful::sites_formed` meets its contract: the first m sites passed. Assumes nothing.
+-- `lawful::sites_formed` meets its contract: the first m sites passed.
 use mathlib.Core.Path.{_≡_, sym}
 use mathlib.Core.Bool.{true}
 use Prim.Native.Nat.{_-_, _≤_}
@@ -21,13 +21,17 @@ abbrev μ-loop : tie.MeasureT-loop
 loop-holds : tie.Need-loop-holds Inv-loop μ-loop
 loop-holds c = (omega arith, allBelow-none _)
 
-site-at-requires : tie.Need-site-at-requires Inv-loop μ-loop
-site-at-requires c κs = search needs
+site-requires : tie.Need-site-requires Inv-loop μ-loop
+site-requires c κs = search needs
+
+site-formed-requires : tie.Need-site-formed-requires Inv-loop μ-loop
+site-formed-requires c κs = search needs
 
 returns : tie.Need-returns Inv-loop μ-loop
 returns c =
-    let no = fails (c .before .site-at .ensures) (c .if1 .taken) in
-    sym (allBelow-fails 4 _ (c .before .before .before .loop .m) (omega arith) no)
+    let k = c .before in
+    let no = fails (rw (k .before .site .ensures .0) at (k .site-formed .ensures)) (c .if1 .taken) in
+    sym (allBelow-fails 4 _ (k .before .before .before .loop .m) (omega arith) no)
 
 add-m : tie.Need-add-m Inv-loop μ-loop
 add-m c = search needs
@@ -37,8 +41,10 @@ loop-less c = search needs
 
 loop-again : tie.Need-loop-again Inv-loop μ-loop
 loop-again c =
-    let l = c .before .before .before in
-    (omega arith, allBelow-more (l .loop .m) _ (l .loop .inv .1) (passes (c .before .site-at .ensures) (c .if1 .left)))
+    let k = c .before in
+    let l = k .before .before .before in
+    let yes = passes (rw (k .before .site .ensures .0) at (k .site-formed .ensures)) (c .if1 .left) in
+    (omega arith, allBelow-more (l .loop .m) _ (l .loop .inv .1) yes)
 
 returns-2 : tie.Need-returns-2 Inv-loop μ-loop
 returns-2 c =
@@ -53,7 +59,8 @@ sites-formed-spec =
     Inv-loop
     μ-loop
     loop-holds
-    site-at-requires
+    site-requires
+    site-formed-requires
     returns
     add-m
     loop-less

@@ -1,6 +1,7 @@
--- `steps::step` meets its contract: refused with 10 or 11 by its tests, and otherwise what is decided is carried out. Assumes nothing.
-use mathlib.Core.Path.{_≡_, sym, ap, _∙_}
+-- `steps::step` meets its contract: refused with 10 or 11 by its tests, and otherwise what is decided is carried out.
+use mathlib.Core.Path.{_≡_, refl, sym, ap, _∙_}
 use mathlib.Core.Bool.{true}
+use lib.ListN.{length}
 use borrow.Author.Tests.{not-true, not-false}
 use Rattle.event.specs.Event.{codeLawful}
 use Rattle.table.specs.Decode.{settingIn}
@@ -21,10 +22,10 @@ code-true c = sym (c .before .code-lawful .ensures) ∙ not-false _ (c .if1 .lef
 abbrev tested : tie.After-fields-lawful → tie.Else1
 tested c = c .before .before .before .before .before
 
-sound : (c : tie.After-fields-lawful) → Sound (tested c .before .before .before .before .args .t .now)
+sound : (c : tie.After-fields-lawful) → Sound (length (tested c .before .before .before .before .args .t .now)) (tested c .before .before .before .before .args .t .now)
 sound c =
     let s = tested c .before .before .before in
-    record { size = s .before .pre .0; bytes = s .slice-known .given; formed = s .before .pre .1 }
+    record { size = refl; long = s .before .pre .0; bytes = s .slice-known .given; formed = s .before .pre .1 }
 
 test-is : (c : tie.After-fields-lawful) → c .fields-lawful .result ≡ fieldsTest (tested c .before .before .before .before .args .t .now) (tested c .before .before .before .before .args .e .now)
 test-is c =
@@ -90,7 +91,7 @@ carry-out-requires c κs =
     let F = formed (a .t .now) (S .formed) in
     let l = is-yes _ (code-true (tested f)) in
     let u = is-yes _ (fields-true n) in
-    (S .size, F .site, F .sites, decided-fits (a .t .now) (a .e .now) (d .result) S l u (d .ensures), decided-waits (a .t .now) (a .e .now) (d .result) S l u (d .ensures))
+    (S .long, F .site, F .sites, decided-fits _ (a .t .now) (a .e .now) (d .result) S l u (d .ensures), decided-waits _ (a .t .now) (a .e .now) (d .result) S l u (d .ensures))
 
 same-length-2 : tie.Need-same-length-2
 same-length-2 c = search needs
@@ -103,7 +104,7 @@ returns-3 c =
     let f = n .before in
     let a = tested f .before .before .before .before .args in
     ap (gives (d .result .answer)) (k .carry-out .ensures)
-    ∙ sym (decided-gives (a .t .now) (a .e .now) (d .result) (sound f) (is-yes _ (code-true (tested f))) (is-yes _ (fields-true n)) (d .ensures))
+    ∙ sym (decided-gives _ (a .t .now) (a .e .now) (d .result) (sound f) (is-yes _ (code-true (tested f))) (is-yes _ (fields-true n)) (d .ensures))
 
 pub step-spec : {M : Type 1} → statement M
 step-spec =

@@ -1,17 +1,14 @@
--- `table::set_clock` meets its contract, by what comes back of the site's part. Assumes nothing.
+-- `table::set_clock` meets its contract, by what comes back of the site's part.
 use borrow.Author.Needs.{needs}
-use Rattle.codec.proofs.Part.{lent-back}
 use Rattle.parts.specs.Node.{clockSet}
 use Rattle.table.specs.Put.{putChange}
-use Rattle.table.specs.Parts.{siteAt, onSite, onNode}
+use Rattle.table.specs.Parts.{onNode}
+use Rattle.table.proofs.Lent.{site-back}
 use Rattle.table.proofs.set_clock.Statement.{statement}
 use Rattle.table.proofs.set_clock.Tie as tie
 
-mul-off : tie.Need-mul-off
-mul-off c = search needs
-
-add-off : tie.Need-add-off
-add-off c = search needs
+site-at-requires : tie.Need-site-at-requires
+site-at-requires c κs = search needs
 
 add-end : tie.Need-add-end
 add-end c = search needs
@@ -32,18 +29,17 @@ same-length : tie.Need-same-length
 same-length c = search needs
 
 returns : tie.Need-returns
-unfolding putChange onSite
+unfolding putChange
 returns c =
     let k = c .before .before in
-    let a = k .before .before .before .args in
-    lent-back (siteAt (a .m)) 13056 (a .t .now) _ (onNode (a .p) (clockSet (a .time))) (k .set-clock .ensures)
+    let a = k .before .before .before .before .args in
+    site-back (a .t .now) (a .m) _ (k .before .before .site-at .ensures .0) _ (onNode (a .p) (clockSet (a .time))) (k .set-clock .ensures)
 
 pub set-clock-spec : {M : Type 1} → statement M
 set-clock-spec =
     tie.close
     (tie.spec
-    mul-off
-    add-off
+    site-at-requires
     add-end
     sub-set-clock
     part-set-clock-start

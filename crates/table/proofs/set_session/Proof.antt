@@ -1,18 +1,14 @@
--- `table::set_session` meets its contract, by what comes back of the session. Assumes nothing.
+-- `table::set_session` meets its contract, by what comes back of the session.
 use borrow.Author.Needs.{needs}
-use Rattle.codec.proofs.Part.{lent-back}
 use Rattle.parts.specs.Meaning.{asSession}
 use Rattle.parts.specs.Session.{putSession}
 use Rattle.table.specs.Put.{putChange}
-use Rattle.table.specs.Parts.{sessionAt, onSession}
+use Rattle.table.proofs.Lent.{session-back}
 use Rattle.table.proofs.set_session.Statement.{statement}
 use Rattle.table.proofs.set_session.Tie as tie
 
-mul-off : tie.Need-mul-off
-mul-off c = search needs
-
-add-off : tie.Need-add-off
-add-off c = search needs
+session-at-requires : tie.Need-session-at-requires
+session-at-requires c κs = search needs
 
 add-end : tie.Need-add-end
 add-end c = search needs
@@ -33,18 +29,17 @@ same-length : tie.Need-same-length
 same-length c = search needs
 
 returns : tie.Need-returns
-unfolding putChange onSession
+unfolding putChange
 returns c =
     let k = c .before .before in
-    let a = k .before .before .before .args in
-    lent-back (sessionAt (a .s)) 128 (a .t .now) _ (putSession (asSession (a .x))) (k .store .ensures)
+    let a = k .before .before .before .before .args in
+    session-back (a .t .now) (a .s) _ (k .before .before .session-at .ensures .0) _ (putSession (asSession (a .x))) (k .store .ensures)
 
 pub set-session-spec : {M : Type 1} → statement M
 set-session-spec =
     tie.close
     (tie.spec
-    mul-off
-    add-off
+    session-at-requires
     add-end
     sub-store
     part-store-start

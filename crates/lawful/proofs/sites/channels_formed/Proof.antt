@@ -1,4 +1,4 @@
--- `lawful::sites::channels_formed` meets its contract: the first d channels passed. Assumes nothing.
+-- `lawful::sites::channels_formed` meets its contract: the first d channels passed.
 use mathlib.Core.Path.{_≡_, sym}
 use mathlib.Core.Bool.{true}
 use Prim.Native.Nat.{_-_, _≤_}
@@ -22,13 +22,20 @@ abbrev μ-loop : tie.MeasureT-loop
 loop-holds : tie.Need-loop-holds Inv-loop μ-loop
 loop-holds c = (omega arith, allBelow-none _)
 
-channel-at-requires : tie.Need-channel-at-requires Inv-loop μ-loop
-channel-at-requires c κs = search needs
+cast-channel-of : tie.Need-cast-channel-of Inv-loop μ-loop
+cast-channel-of c = search needs
+
+channel-of-requires : tie.Need-channel-of-requires Inv-loop μ-loop
+channel-of-requires c κs = search needs
+
+channel-formed-requires : tie.Need-channel-formed-requires Inv-loop μ-loop
+channel-formed-requires c κs = search needs
 
 returns : tie.Need-returns Inv-loop μ-loop
 returns c =
-    let no = fails (c .before .channel-at .ensures) (c .if1 .taken) in
-    sym (allBelow-fails 3 _ (c .before .before .before .loop .d) (omega arith) no)
+    let k = c .before in
+    let no = fails (rw (k .before .channel-of .ensures .0) at (k .channel-formed .ensures)) (c .if1 .taken) in
+    sym (allBelow-fails 3 _ (k .before .before .before .loop .d) (omega arith) no)
 
 add-d : tie.Need-add-d Inv-loop μ-loop
 add-d c = search needs
@@ -38,8 +45,10 @@ loop-less c = search needs
 
 loop-again : tie.Need-loop-again Inv-loop μ-loop
 loop-again c =
-    let l = c .before .before .before in
-    (omega arith, allBelow-more (l .loop .d) _ (l .loop .inv .1) (passes (c .before .channel-at .ensures) (c .if1 .left)))
+    let k = c .before in
+    let l = k .before .before .before in
+    let yes = passes (rw (k .before .channel-of .ensures .0) at (k .channel-formed .ensures)) (c .if1 .left) in
+    (omega arith, allBelow-more (l .loop .d) _ (l .loop .inv .1) yes)
 
 returns-2 : tie.Need-returns-2 Inv-loop μ-loop
 returns-2 c =
@@ -54,7 +63,9 @@ channels-formed-spec =
     Inv-loop
     μ-loop
     loop-holds
-    channel-at-requires
+    cast-channel-of
+    channel-of-requires
+    channel-formed-requires
     returns
     add-d
     loop-less

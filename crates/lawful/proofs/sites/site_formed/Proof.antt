@@ -1,4 +1,4 @@
--- `lawful::sites::site_formed` meets its contract: the first p partitions passed. Assumes nothing.
+-- `lawful::sites::site_formed` meets its contract: the first p partitions passed.
 use mathlib.Core.Path.{_≡_, sym}
 use mathlib.Core.Bool.{true, _&&_, and-false}
 use Prim.Native.Nat.{_-_, _≤_}
@@ -24,14 +24,18 @@ abbrev μ-loop : tie.MeasureT-loop
 loop-holds : tie.Need-loop-holds Inv-loop μ-loop
 loop-holds c = (omega arith, allBelow-none _)
 
-node-at-requires : tie.Need-node-at-requires Inv-loop μ-loop
-node-at-requires c κs = search needs
+node-of-requires : tie.Need-node-of-requires Inv-loop μ-loop
+node-of-requires c κs = search needs
+
+node-formed-requires : tie.Need-node-formed-requires Inv-loop μ-loop
+node-formed-requires c κs = search needs
 
 returns : tie.Need-returns Inv-loop μ-loop
 unfolding siteFormed
 returns c =
-    let no = fails (c .before .node-at .ensures) (c .if1 .taken) in
-    sym (allBelow-fails 4 _ (c .before .before .before .loop .p) (omega arith) (rw no))
+    let k = c .before in
+    let no = fails (rw (k .before .node-of .ensures .0) at (k .node-formed .ensures)) (c .if1 .taken) in
+    sym (allBelow-fails 4 _ (k .before .before .before .loop .p) (omega arith) (rw no))
 
 channels-formed-requires : tie.Need-channels-formed-requires Inv-loop μ-loop
 channels-formed-requires c κs = search needs
@@ -39,7 +43,7 @@ channels-formed-requires c κs = search needs
 returns-2 : tie.Need-returns-2 Inv-loop μ-loop
 unfolding siteFormed
 returns-2 c =
-    let l = c .before .before .before .before .before in
+    let l = c .before .before .before .before .before .before in
     let no = fails (c .before .channels-formed .ensures) (c .if2 .taken) in
     sym (allBelow-fails 4 _ (l .loop .p) (omega arith) (rw (no, and-false)))
 
@@ -52,8 +56,9 @@ loop-less c = search needs
 loop-again : tie.Need-loop-again Inv-loop μ-loop
 loop-again c =
     let node = c .before .before in
-    let l = node .before .before .before in
-    let yesNode = passes (node .before .node-at .ensures) (node .if1 .left) in
+    let k = node .before in
+    let l = k .before .before .before in
+    let yesNode = passes (rw (k .before .node-of .ensures .0) at (k .node-formed .ensures)) (node .if1 .left) in
     let yesChannels = passes (c .before .channels-formed .ensures) (c .if2 .left) in
     (omega arith, allBelow-more (l .loop .p) _ (l .loop .inv .1) (rw (yesNode, yesChannels)))
 
@@ -71,7 +76,8 @@ site-formed-spec =
     Inv-loop
     μ-loop
     loop-holds
-    node-at-requires
+    node-of-requires
+    node-formed-requires
     returns
     channels-formed-requires
     returns-2

@@ -1,4 +1,4 @@
--- `steps::runs::run` meets its contract: the table stays sound, so each piece is stepped as on a well-formed one. Assumes nothing.
+-- `steps::runs::run` meets its contract: the table stays sound, so each piece is stepped as on a well-formed one.
 use Prim.Native.Nat.{_-_, _≤_}
 use native.Mathlib.Omega.{arith}
 use mathlib.Core.Path.{_≡_, refl}
@@ -11,7 +11,7 @@ use Rattle.steps.proofs.runs.run.Tie as tie
 use borrow.Author.Needs.{needs}
 
 abbrev Inv-loop : tie.InvT-loop
-Inv-loop t₀ es b₀ n i₀ t b i = (i ≤ n) × Sound t × (length b ≡ length b₀) × (ran t b ≡ runBy pieceCall i t₀ es b₀)
+Inv-loop t₀ es b₀ n i₀ t b i = (i ≤ n) × Sound (length t₀) t × (length b ≡ length b₀) × (ran t b ≡ runBy pieceCall i t₀ es b₀)
 
 abbrev μ-loop : tie.MeasureT-loop
 μ-loop t₀ es b₀ n i₀ t b i = n - i
@@ -19,7 +19,7 @@ abbrev μ-loop : tie.MeasureT-loop
 loop-holds : tie.Need-loop-holds Inv-loop μ-loop
 loop-holds c =
     let a = c .before .before .before .args in
-    (omega arith, record { size = search needs; bytes = c .before .before .slice-known .given; formed = search needs }, refl, run-none pieceCall (a .t .now) (a .es .now) (a .b .now))
+    (omega arith, record { size = refl; long = search needs; bytes = c .before .before .slice-known .given; formed = search needs }, refl, run-none pieceCall (a .t .now) (a .es .now) (a .b .now))
 
 turn-requires : tie.Need-turn-requires Inv-loop μ-loop
 turn-requires c κs = search needs
@@ -36,7 +36,7 @@ loop-again c =
     let l = c .before .before .before .before .before .before .before .before in
     let a = l .before .before .before .before .args in (
       omega arith,
-      turned-sound (l .loop .t) (a .es .now) (l .loop .b) (l .loop .i) _ _ (k .ensures) (l .loop .inv .1),
+      turned-sound _ (l .loop .t) (a .es .now) (l .loop .b) (l .loop .i) _ _ (k .ensures) (l .loop .inv .1),
       omega arith,
       run-step pieceCall (a .t .now) (a .es .now) (a .b .now) (l .loop .i) (l .loop .t) (l .loop .b) _ _ (l .loop .inv .3) (k .ensures),
     )

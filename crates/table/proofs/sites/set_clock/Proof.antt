@@ -1,13 +1,12 @@
--- `table::sites::set_clock` meets its contract, by what comes back of the node. Assumes nothing.
+-- `table::sites::set_clock` meets its contract, by what comes back of the node.
 use borrow.Author.Needs.{needs}
-use Rattle.codec.proofs.Part.{lent-back}
 use Rattle.parts.specs.Node.{clockSet}
-use Rattle.table.specs.Parts.{nodeAt, onNode}
+use Rattle.table.proofs.Lent.{node-back}
 use Rattle.table.proofs.sites.set_clock.Statement.{statement}
 use Rattle.table.proofs.sites.set_clock.Tie as tie
 
-mul-off : tie.Need-mul-off
-mul-off c = search needs
+node-at-requires : tie.Need-node-at-requires
+node-at-requires c κs = search needs
 
 add-end : tie.Need-add-end
 add-end c = search needs
@@ -28,17 +27,16 @@ same-length : tie.Need-same-length
 same-length c = search needs
 
 returns : tie.Need-returns
-unfolding onNode
 returns c =
     let k = c .before .before in
-    let a = k .before .before .before .args in
-    lent-back (nodeAt (a .p)) 1856 (a .site .now) _ (clockSet (a .t)) (k .set-clock .ensures)
+    let a = k .before .before .before .before .args in
+    node-back (a .site .now) (a .p) _ (k .before .before .node-at .ensures .0) _ (clockSet (a .t)) (k .set-clock .ensures)
 
 pub set-clock-spec : {M : Type 1} → statement M
 set-clock-spec =
     tie.close
     (tie.spec
-    mul-off
+    node-at-requires
     add-end
     sub-set-clock
     part-set-clock-start
