@@ -64,6 +64,11 @@ pub use quality::{Quality, UnknownNumber};
 pub use refusal::Refusal;
 pub use view::{ChannelView, Message, NodeView, PageView, Record, SessionView, View};
 
+/// The README's Rust program, compiled and run as an example of this crate.
+#[cfg(doctest)]
+#[doc = include_str!("../../../README.md")]
+mod readme {}
+
 /// The length of a table.
 pub const TABLE_BYTES: usize = 57_344;
 
