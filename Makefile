@@ -2,7 +2,7 @@
 
 .PHONY: bench levels library test
 
-# Proves and builds the bench, and runs it on document 01's 17 events: their lines go to standard output, all else to standard error.
+# Proves and builds the bench, and runs it on the 17 events of the example in docs/RULES.md: their lines go to standard output, all else to standard error.
 bench:
 	@scripts/brief check bench >&2
 	@target/bin/bench < vectors/base/document-01.events
