@@ -7,7 +7,9 @@
 //! * [`Event`] is what happens, typed, as text or as bytes; [`Answer`] is what the
 //!   archive says to it, a [`Refusal`] among them.
 //! * [`View`] shows what a table holds.
-//! * [`limits`] has document 01's numbers, [`sys`] the three proved functions as they are.
+//! * [`limits`] has the numbers that bound them, [`sys`] the three proved functions as they are.
+//!
+//! What each event does, and when it is refused or waits, stands in the repository's docs/RULES.md.
 //!
 //! ```
 //! use level_archive::{Answer, Archive, Event, Quality};
@@ -63,6 +65,11 @@ pub use page_keys::{PageKeys, TooManyKeys};
 pub use quality::{Quality, UnknownNumber};
 pub use refusal::Refusal;
 pub use view::{ChannelView, Message, NodeView, PageView, Record, SessionView, View};
+
+/// The README's Rust program, compiled and run as an example of this crate.
+#[cfg(doctest)]
+#[doc = include_str!("../../../README.md")]
+mod readme {}
 
 /// The length of a table.
 pub const TABLE_BYTES: usize = 57_344;

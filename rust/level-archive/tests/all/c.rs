@@ -60,9 +60,20 @@ fn has_cpp() -> bool {
 }
 
 #[test]
-fn the_example() {
-    let source = repository().join("examples/c/two_sites.c");
-    assert_eq!(printed(&C99, &source, "two_sites"), TWO_SITES);
+fn the_examples() {
+    let example = |name: &str| repository().join("examples/c").join(name).with_extension("c");
+    assert_eq!(printed(&C99, &example("two_sites"), "two_sites"), TWO_SITES);
+    assert_eq!(printed(&C99, &example("first"), "first"), "done\n");
+}
+
+/// The C lines that the README shows stand so, indented, in examples/c/first.c.
+#[test]
+fn the_readme_shows_the_first_example() {
+    let readme = include_str!("../../../../README.md");
+    let (_, rest) = readme.split_once("```c\n").expect("C in the README");
+    let (shown, _) = rest.split_once("```").expect("its end");
+    let program = include_str!("../../../../examples/c/first.c").replace("\n    ", "\n");
+    assert!(program.contains(shown), "README.md has other lines than examples/c/first.c:\n{shown}");
 }
 
 /// This crate's version, as text and as a number.

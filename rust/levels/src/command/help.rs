@@ -34,8 +34,8 @@ Turns text into event bytes, 32 for each event.
     -o, --output FILE    write there; without it to standard output
     -h, --help           this text
 
-FILE is read, or standard input if there is none or it is '-'. One event a line, as
-document 01 writes them:
+FILE is read, or standard input if there is none or it is '-'. One event a line;
+docs/RULES.md says what each does:
 
     OPEN session S site M                     CLOSE session S
     CLOCK M,P at TIME                         BEAT M,P
