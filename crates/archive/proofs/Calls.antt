@@ -16,23 +16,23 @@ use Rattle.lawful.specs.WellFormed.{wellFormed}
 use Rattle.lawful.proofs.Steps.{Sound}
 use Rattle.reader.specs.Pieces.{pieceOf}
 use Rattle.steps.specs.Step.{Called, gives, refused, stepOn}
-use Rattle.steps.specs.Run.{putAnswer, ran, turned, runBy, pieceCall, turnedAway}
+use Rattle.steps.specs.Run.{putAnswer, ran, pieceAnswered, runBy, pieceCall, pieceRefused}
 use Rattle.steps.proofs.Kept.{piece-keeps}
 use Rattle.archive.specs.Call.{stepCall, setupCall}
 
 -- ---- setup
 
-module _ (t : List ℕ) (sites parts : ℕ) where
-  pub setup-23 : length t ≢ tableLength → setupCall t sites parts ≡ refused 23 t
+module _ (t : List ℕ) (sites partitions : ℕ) where
+  pub setup-23 : length t ≢ tableLength → setupCall t sites partitions ≡ refused 23 t
   unfolding setupCall
   setup-23 d = rw (ne-eqb (length t) tableLength d)
 
   module _ (long : length t ≡ tableLength) where
-    pub setup-11 : settingLawful (record { sites = sites; parts = parts }) ≡ false → setupCall t sites parts ≡ refused 11 t
+    pub setup-11 : settingLawful (record { sites = sites; partitions = partitions }) ≡ false → setupCall t sites partitions ≡ refused 11 t
     unfolding setupCall
     setup-11 l = rw (eq-eqb (length t) tableLength long, l)
 
-    pub setup-done : settingLawful (record { sites = sites; parts = parts }) ≡ true → setupCall t sites parts ≡ gives Done (put 1 (put 1 (replicate (length t) 0) 0 sites) 1 parts)
+    pub setup-done : settingLawful (record { sites = sites; partitions = partitions }) ≡ true → setupCall t sites partitions ≡ gives Done (put 1 (put 1 (replicate (length t) 0) 0 sites) 1 partitions)
     unfolding setupCall fresh
     setup-done l = rw (eq-eqb (length t) tableLength long, l, long)
 
@@ -57,8 +57,8 @@ module _ (t e : List ℕ) where
     step-formed l w = rw (eq-eqb (length t) tableLength long, eq-eqb (length e) 32 l, w)
 
     -- a piece of any length
-    piece-ill : wellFormed t ≡ false → stepCall t e ≡ turnedAway 24 t e
-    unfolding stepCall turnedAway
+    piece-ill : wellFormed t ≡ false → stepCall t e ≡ pieceRefused 24 t e
+    unfolding stepCall pieceRefused
     piece-ill w = rw (eq-eqb (length t) tableLength long, w) (go (eqb (length e) 32))
       where
         go : (b : Bool) → cond b (refused 24 t) (refused 23 t) ≡ refused (cond b 24 23) t
@@ -69,8 +69,8 @@ module _ (t e : List ℕ) where
     unfolding stepCall pieceCall
     piece-formed w = rw (eq-eqb (length t) tableLength long, w)
 
-  piece-no-table : length t ≢ tableLength → stepCall t e ≡ turnedAway 23 t e
-  unfolding turnedAway
+  piece-no-table : length t ≢ tableLength → stepCall t e ≡ pieceRefused 23 t e
+  unfolding pieceRefused
   piece-no-table d = step-no-table d ∙ go (eqb (length e) 32)
     where
       go : (b : Bool) → refused 23 t ≡ refused (cond b 23 23) t
@@ -82,23 +82,23 @@ module _ (t e : List ℕ) where
 -- two calls that agree where P holds, which the second keeps, run alike
 same-runs : (f g : (table event : List ℕ) → Called) (P : List ℕ → Type 0) → ((t e : List ℕ) → P t → f t e ≡ g t e) → ((t e : List ℕ) → P t → P (g t e .table)) →
     (t es b : List ℕ) → P t → (n : ℕ) → (runBy f n t es b ≡ runBy g n t es b) × P (runBy g n t es b .table)
-unfolding runBy turned
+unfolding runBy pieceAnswered
 same-runs f g P same keeps t es b p zero = (refl, p)
 same-runs f g P same keeps t es b p (suc n) =
     let r = same-runs f g P same keeps t es b p n in
     let u = runBy g n t es b in
-    (ap (λ x. turned f n (x .table) es (x .answers)) (r .0) ∙ ap (λ c. ran (c .table) (putAnswer (u .answers) (16 * n) (c .answer))) (same (u .table) (pieceOf es n) (r .1)), keeps (u .table) (pieceOf es n) (r .1))
+    (ap (λ x. pieceAnswered f n (x .table) es (x .answers)) (r .0) ∙ ap (λ c. ran (c .table) (putAnswer (u .answers) (16 * n) (c .answer))) (same (u .table) (pieceOf es n) (r .1)), keeps (u .table) (pieceOf es n) (r .1))
 
 module _ (t es b : List ℕ) (n : ℕ) where
   -- a table that is refused stays as it is
-  away-runs : (k : ℕ) → ((e : List ℕ) → stepCall t e ≡ turnedAway k t e) → runBy stepCall n t es b ≡ runBy (turnedAway k) n t es b
-  unfolding turnedAway
-  away-runs k same = same-runs stepCall (turnedAway k) (λ u. u ≡ t) (λ u e q. rw q (same e)) (λ u e q. q) t es b refl n .0
+  away-runs : (k : ℕ) → ((e : List ℕ) → stepCall t e ≡ pieceRefused k t e) → runBy stepCall n t es b ≡ runBy (pieceRefused k) n t es b
+  unfolding pieceRefused
+  away-runs k same = same-runs stepCall (pieceRefused k) (λ u. u ≡ t) (λ u e q. rw q (same e)) (λ u e q. q) t es b refl n .0
 
-  pub run-no-table : length t ≢ tableLength → runBy stepCall n t es b ≡ runBy (turnedAway 23) n t es b
+  pub run-no-table : length t ≢ tableLength → runBy stepCall n t es b ≡ runBy (pieceRefused 23) n t es b
   run-no-table d = away-runs 23 (λ e. piece-no-table t e d)
 
-  pub run-ill : length t ≡ tableLength → wellFormed t ≡ false → runBy stepCall n t es b ≡ runBy (turnedAway 24) n t es b
+  pub run-ill : length t ≡ tableLength → wellFormed t ≡ false → runBy stepCall n t es b ≡ runBy (pieceRefused 24) n t es b
   run-ill l w = away-runs 24 (λ e. piece-ill t e l w)
 
   pub run-formed : Sound tableLength t → runBy stepCall n t es b ≡ runBy pieceCall n t es b

@@ -1,5 +1,5 @@
 -- Each of the four changes writes the same bytes at the same places of two tables that agree on what it looks at. In order: what is done to a node, to
--- a channel, to a site that sends; what a change looks at (`Seen`), and the numbers found there; each change, and many. Assumes nothing.
+-- a channel, to a site that sends; what a change looks at (`Seen`), and the numbers found there; each change, and many.
 use Prim.Native.Nat.{ℕ, zero, suc, _+_, _*_, _-_, _%_, _≤_, _<_, max}
 use native.Mathlib.Omega.{arith}
 use mathlib.Core.Path.{_≡_, sym, ap, _∙_}
@@ -10,7 +10,7 @@ use Rattle.codec.specs.Part.{Keeps}
 use Rattle.codec.proofs.Le.{load-put-other}
 use Rattle.vector.specs.Vec.{width}
 use Rattle.vector.proofs.Entries.{loadVec-below}
-use Rattle.protocol.specs.Record.{Msg, Update, Beat, stampIn}
+use Rattle.protocol.specs.Record.{Msg, Update, Heartbeat, stampIn}
 use Rattle.protocol.specs.State.{Session}
 use Rattle.protocol.specs.Promises.{SiteAlike}
 use Rattle.protocol.specs.Change.{Change, SetSession, SetClock, Publish, Receive}
@@ -40,7 +40,7 @@ held-heard n i x h = load-put-other 1 8 n (8 + 8 * i) x 40 (λ k a b c d. omega 
 twin-stored : (x : Msg) {s s′ r r′ : List ℕ} → Twin s s′ r r′ → heldIn s′ ≡ heldIn r′ → Twin s (stored x s′) r (stored x r′)
 unfolding stored
 twin-stored (Update q) {s} {s′} {r} {r′} a e = rw e (twin-put 1 40 (heldIn r′ + 1) (twin-putRecord (slotAt (heldIn r′)) q a))
-twin-stored (Beat t) a e = a
+twin-stored (Heartbeat t) a e = a
 
 module _ (n k : List ℕ) (i : ℕ) (h : i < 4) (x : Msg) (l : length n ≡ length k) (e : heldIn n ≡ heldIn k) where
   -- entry i set to v, and the message stored
@@ -134,8 +134,8 @@ frontOf t i m p = frontIn (channelOf (siteOf t i) p (placeOf i m)) % 8
 abbrev pub Seen : Change → (t u : List ℕ) → Type 0
 Seen (SetSession s x) t u = Unit {0}
 Seen (SetClock m p c) t u = Unit {0}
-Seen (Publish m p x) t u = AlikeAt t u m × (p < settingIn t .parts) × NextAlike t u m
-Seen (Receive i m p x) t u = AlikeAt t u m × (p < settingIn t .parts) × (decode t .net .chan i m p ≡ decode u .net .chan i m p) × (frontOf t i m p ≡ frontOf u i m p)
+Seen (Publish m p x) t u = AlikeAt t u m × (p < settingIn t .partitions) × NextAlike t u m
+Seen (Receive i m p x) t u = AlikeAt t u m × (p < settingIn t .partitions) × (decode t .net .chan i m p ≡ decode u .net .chan i m p) × (frontOf t i m p ≡ frontOf u i m p)
 
 -- each change looks at the tables that those before it leave
 abbrev pub SeenAll : List Change → (t u : List ℕ) → Type 0
@@ -149,11 +149,11 @@ module _ (t u : List ℕ) where
   unfolding decode settingIn
   same-sites m a = ap (λ c. c .sites) (a .setting)
 
-  same-held : (m p : ℕ) → p < settingIn t .parts → AlikeAt t u m → heldIn (nodeOf (siteOf t m) p) ≡ heldIn (nodeOf (siteOf u m) p)
+  same-held : (m p : ℕ) → p < settingIn t .partitions → AlikeAt t u m → heldIn (nodeOf (siteOf t m) p) ≡ heldIn (nodeOf (siteOf u m) p)
   unfolding decode
   same-held m p g a = sym (store-length t m p) ∙ ap length (a .store p (λ o. g)) ∙ store-length u m p
 
-  same-heard : (m p i : ℕ) → p < settingIn t .parts → i < 4 → AlikeAt t u m → load 8 (nodeOf (siteOf t m) p) (8 + 8 * i) ≡ load 8 (nodeOf (siteOf u m) p) (8 + 8 * i)
+  same-heard : (m p i : ℕ) → p < settingIn t .partitions → i < 4 → AlikeAt t u m → load 8 (nodeOf (siteOf t m) p) (8 + 8 * i) ≡ load 8 (nodeOf (siteOf u m) p) (8 + 8 * i)
   unfolding decode heardIn width
   same-heard m p i g h a = sym (loadVec-below (nodeOf (siteOf t m) p) 8 i h) ∙ a .heard p i (λ o. g) ∙ loadVec-below (nodeOf (siteOf u m) p) 8 i h
 
@@ -162,7 +162,7 @@ module _ (t u : List ℕ) where
       → waitIn (channelOf (siteOf t i) p (placeOf i m)) ≡ waitIn (channelOf (siteOf u i) p (placeOf i m))
   same-wait i m p h d e = sym (chan-length t i m p h d) ∙ e ∙ chan-length u i m p h d
 
-  same-next : (m p d : ℕ) → m < load 1 t 0 → load 1 t 0 ≤ 4 → p < settingIn t .parts → d < load 1 t 0 - 1 → AlikeAt t u m → NextAlike t u m → Next (channelOf (siteOf t m) p d) (channelOf (siteOf u m) p d)
+  same-next : (m p d : ℕ) → m < load 1 t 0 → load 1 t 0 ≤ 4 → p < settingIn t .partitions → d < load 1 t 0 - 1 → AlikeAt t u m → NextAlike t u m → Next (channelOf (siteOf t m) p d) (channelOf (siteOf u m) p d)
   unfolding NextAlike decode settingIn
   same-next m p d h few g b a next =
       let o = other-at (load 1 t 0) m d h b in
@@ -214,16 +214,16 @@ module _ (t u : List ℕ) (l : Long t) (l′ : length u ≡ length t) where
       let h : m < 4 = omega (arith, fit .site, fit .sites) in
       let b : n ≤ 3 = omega (arith, fit .sites) in
       rw (← same-sites t u m a)
-      (twin-onSite (publishedOn n m p x) t u l l′ m h (publishedOn-keeps t n m p x l h (fit .part) b)
-      (twin-publishedOn m p x (fit .part) (siteOf t m) (siteOf u m) (length-site t m l h) (length-site u m (as-long t u l l′) h) n b h (same-held t u m p (seen .1) a)
+      (twin-onSite (publishedOn n m p x) t u l l′ m h (publishedOn-keeps t n m p x l h (fit .partition) b)
+      (twin-publishedOn m p x (fit .partition) (siteOf t m) (siteOf u m) (length-site t m l h) (length-site u m (as-long t u l l′) h) n b h (same-held t u m p (seen .1) a)
       (λ d c. same-next t u m p d (fit .site) (fit .sites) (seen .1) c a (seen .2)) .writes))
 
   -- the node stores and hears, then the message leaves the other site's channel, which is as it was
   twin-receive : (i m p : ℕ) (x : Msg) → FitsReceive i m p x t → Seen (Receive i m p x) t u → Twin t (putChange (Receive i m p x) t) u (putChange (Receive i m p x) u)
   unfolding putChange
   twin-receive i m p x fit seen =
-      twin-then (twin-atNode t u l l′ (received i x) m p (fit .site) (fit .part) keeps (node .writes))
-      (twin-atChannel (f t) (f u) (long-still t (f t) (same t l) l) (same u k ∙ l′ ∙ sym (same t l)) popped i p (fit .source) (fit .part) d b popped-keeps
+      twin-then (twin-atNode t u l l′ (received i x) m p (fit .site) (fit .partition) keeps (node .writes))
+      (twin-atChannel (f t) (f u) (long-still t (f t) (same t l) l) (same u k ∙ l′ ∙ sym (same t l)) popped i p (fit .source) (fit .partition) d b popped-keeps
       (rw (beside t l, beside u k) (channel .writes)))
     where
       k : Long u
@@ -242,19 +242,19 @@ module _ (t u : List ℕ) (l : Long t) (l′ : length u ≡ length t) where
       keeps n e = length-received i x n ∙ e
 
       same : (v : List ℕ) → Long v → length (f v) ≡ length v
-      same v k = length-onSite v m (onNode p (received i x)) k (fit .site) (onNode-keeps v m p (received i x) k (fit .site) (fit .part) keeps)
+      same v k = length-onSite v m (onNode p (received i x)) k (fit .site) (onNode-keeps v m p (received i x) k (fit .site) (fit .partition) keeps)
 
       beside : (v : List ℕ) → Long v → channelOf (siteOf (f v) i) p d ≡ channelOf (siteOf v i) p d
-      beside v k = channel-atNode v m p (received i x) k (fit .site) (fit .part) keeps i p d
+      beside v k = channel-atNode v m p (received i x) k (fit .site) (fit .partition) keeps i p d
 
       node : Twin (nodeOf (siteOf t m) p) (received i x (nodeOf (siteOf t m) p)) (nodeOf (siteOf u m) p) (received i x (nodeOf (siteOf u m) p))
       node =
-          twin-received (nodeOf (siteOf t m) p) (nodeOf (siteOf u m) p) i (fit .source) x (same-node t u l l′ m p (fit .site) (fit .part)) (same-held t u m p (seen .1) (seen .0))
+          twin-received (nodeOf (siteOf t m) p) (nodeOf (siteOf u m) p) i (fit .source) x (same-node t u l l′ m p (fit .site) (fit .partition)) (same-held t u m p (seen .1) (seen .0))
           (same-heard t u m p i (seen .1) (fit .source) (seen .0))
 
       channel : Twin (channelOf (siteOf t i) p d) (popped (channelOf (siteOf t i) p d)) (channelOf (siteOf u i) p d) (popped (channelOf (siteOf u i) p d))
       channel =
-          twin-popped (channelOf (siteOf t i) p d) (channelOf (siteOf u i) p d) (same-channel t u l l′ i p d (fit .source) (fit .part) b)
+          twin-popped (channelOf (siteOf t i) p d) (channelOf (siteOf u i) p d) (same-channel t u l l′ i p d (fit .source) (fit .partition) b)
           (same-wait t u i m p (fit .site) (fit .other) (ap length (seen .2))) (seen .3)
 
 twin-change : (c : Change) (t u : List ℕ) → Long t → length u ≡ length t → Fits c t → Seen c t u → Twin t (putChange c t) u (putChange c u)

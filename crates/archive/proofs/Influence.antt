@@ -10,7 +10,7 @@ use lib.ListN.{length}
 use mir.Facts.{and-yes, yes-and, ltb-yes}
 use Rattle.codec.specs.Le.{Bytes}
 use Rattle.codec.proofs.Tests.{cond-elim, same-test}
-use Rattle.protocol.specs.Record.{Setting, partOf, Msg}
+use Rattle.protocol.specs.Record.{Setting, partitionOf, Msg}
 use Rattle.protocol.specs.Event.{Event, OPEN, CLOSE, CLOCK, GET, PUT, BEGIN, READ, END, BEAT, DELIVER}
 use Rattle.protocol.specs.View.{view, place}
 use Rattle.protocol.specs.Needs.{ranges, beatSends, needs}
@@ -44,13 +44,13 @@ unfolding taken
 taken-seen t u i m p [] f = tt
 taken-seen t u i m p (x ∷ l) f = (f x, tt)
 
-module _ (t u : List ℕ) (parts : 0 < settingIn t .parts) where
+module _ (t u : List ℕ) (partitions : 0 < settingIn t .partitions) where
   abbrev c : Setting
   c = settingIn t
 
-  part-lt : (k : ℕ) → partOf c k < c .parts
-  unfolding partOf
-  part-lt k = mod-lt k parts
+  part-lt : (k : ℕ) → partitionOf c k < c .partitions
+  unfolding partitionOf
+  part-lt k = mod-lt k partitions
 
   agree-serve : (e : Event) → AgreeOn t u (place e) → Met (ranges c e) → Met (needs (view (decode t) e) e) → SeenAll (serve (view (decode t) e) e .changes) t u
   unfolding ranges serve needs Alike RingsAlike decode
@@ -107,4 +107,4 @@ module _ (t u : List ℕ) (l : length t ≡ tableLength) (l′ : length u ≡ ta
 pub influenced-bytes : InfluencedBytes
 influenced-bytes t u e l l′ b b′ w w′ q a = same-call t u l l′ b b′ w w′ e (λ i.
     let agree = a i in
-    same-changes t u l l′ b b′ w w′ (eventOf e) (Protocol.influenced (decode t) (decode u) (eventOf e) (agree .0)) (agree-seen t u (formed t w .part) (eventOf e) agree))
+    same-changes t u l l′ b b′ w w′ (eventOf e) (Protocol.influenced (decode t) (decode u) (eventOf e) (agree .0)) (agree-seen t u (formed t w .partition) (eventOf e) agree))

@@ -1,5 +1,5 @@
--- Document 01's four stand-ins do not meet the promise of `step`: each would give something else than `stepCall` on a table that setup and a few events
--- lead to. Assumes nothing.
+-- Four stand-ins that might pass for an archive do not meet the promise of `step`: each would give something else than `stepCall` on a table that setup and a few events
+-- lead to.
 use Prim.Native.Nat.{ℕ}
 use native.Mathlib.Omega.{arith}
 use mathlib.Core.Path.{_≡_, refl, sym, ap, _∙_}
@@ -40,7 +40,7 @@ abbrev Meets : Step → Type 0
 Meets F = (t e : List ℕ) → F t e ≡ stepCall t e
 
 unfoldable four : Setting
-four = record { sites = 4; parts = 4 }
+four = record { sites = 4; partitions = 4 }
 
 unfoldable table : List ℕ
 table = fresh four

@@ -1,4 +1,4 @@
--- Demand 1 on bytes: a call that refuses or waits leaves every byte of the table as it was. Assumes nothing.
+-- Demand 1 on bytes: a call that refuses or waits leaves every byte of the table as it was.
 use Prim.Native.Nat.{ℕ}
 use native.Mathlib.Omega.{arith}
 use mathlib.Core.Path.{_≡_, refl, ap}
@@ -39,9 +39,9 @@ untouched-bytes t e w =
 
 pub untouched-setup : UntouchedSetup
 unfolding setupCall
-untouched-setup t sites parts w =
+untouched-setup t sites partitions w =
     cond-elim (Still t w) (eqb (length t) tableLength)
-    (λ a. cond-elim (Still t w) (settingLawful (record { sites = sites; parts = parts })) (λ b z. absurd (never z)) (λ b z. refl)) (λ a z. refl)
+    (λ a. cond-elim (Still t w) (settingLawful (record { sites = sites; partitions = partitions })) (λ b z. absurd (never z)) (λ b z. refl)) (λ a z. refl)
   where
     never : Done ≡ Refused w → ⊥
     never z = let n : _≡_ {A = ℕ} 0 1 = cc in omega arith

@@ -1,5 +1,5 @@
 -- The theorems carried to the bytes. In order: one call of `step` on a sound table (of the right length and well formed), any list of event byte strings
--- as a list of the protocol's events, from setup, and the promises. Assumes nothing.
+-- as a list of the protocol's events, from setup, and the promises.
 use Prim.Native.Nat.{ℕ, zero, suc, _+_, _≤_}
 use native.Mathlib.Nat.{zero-add}
 use native.Mathlib.Omega.{arith}
@@ -36,7 +36,7 @@ use Rattle.lawful.proofs.Facts.{setting-facts}
 use Rattle.lawful.proofs.Steps.{Sound, fresh-sound, fresh-says, step-sound, step-says}
 use Rattle.reader.specs.Pieces.{pieceOf}
 use Rattle.steps.specs.Step.{Called, gives, refused, stepOn}
-use Rattle.steps.specs.Run.{turned, runBy}
+use Rattle.steps.specs.Run.{pieceAnswered, runBy}
 use Rattle.steps.proofs.Stepped.{cond-yes, cond-not}
 use Rattle.archive.specs.Call.{stepCall, setupCall}
 use Rattle.archive.specs.Run.{piecesOf, runCall}
@@ -228,7 +228,7 @@ after-more t [] e = refl
 after-more t (d ∷ es) e = after-more (stepCall t d .table) es e
 
 run-after : (t es b : List ℕ) (n : ℕ) → runBy stepCall n t es b .table ≡ tableAfter t (tabulate n (pieceOf es))
-unfolding runBy turned
+unfolding runBy pieceAnswered
 run-after t es b zero = unfold tabulate tableAfter in refl
 run-after t es b (suc n) =
     ap (λ u. stepCall u (pieceOf es n) .table) (run-after t es b n)

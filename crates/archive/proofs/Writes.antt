@@ -1,5 +1,5 @@
 -- The same bytes written at the same places of two lists. In order: one byte; no write, and two writes one after the other (`Twin`); a number; what is
--- made of numbers, up to a session; and something done to a part, up to sessions, sites, nodes and channels. Assumes nothing.
+-- made of numbers, up to a session; and something done to a part, up to sessions, sites, nodes and channels.
 use Prim.Native.Nat.{ℕ, zero, suc, _+_, _*_, _-_, _/_, _%_, _≤_, _<_}
 use native.Mathlib.Decide.{decLt}
 use native.Mathlib.Omega.{arith}
@@ -15,7 +15,7 @@ use Rattle.codec.specs.Part.{partOf, onPart, Keeps}
 use Rattle.codec.proofs.Part.{length-onPart, part-onPart, getD-onPart, getD-part}
 use Rattle.vector.specs.Vec.{Vec, width, zeros}
 use Rattle.vector.specs.Entries.{putFirst, putVec}
-use Rattle.protocol.specs.Record.{Rec, Msg, Update, Beat}
+use Rattle.protocol.specs.Record.{Rec, Msg, Update, Heartbeat}
 use Rattle.protocol.specs.State.{Mark, Session}
 use Rattle.record.specs.RecordBytes.{putFields, putRecord, putMessage}
 use Rattle.parts.specs.Session.{flag, putMarks, putSession}
@@ -107,7 +107,7 @@ twin-putRecord at x a = twin-putFields at (x .id .key) (x .id .source) (x .quali
 pub twin-putMessage : (at m : ℕ) (x : Msg) {s s′ r r′ : List ℕ} → Twin s s′ r r′ → Twin s (putMessage s′ at m x) r (putMessage r′ at m x)
 unfolding putMessage
 twin-putMessage at m (Update x) a = twin-putRecord at x a
-twin-putMessage at m (Beat t) a = twin-putFields at 0 m 0 2 (pos 0) t zeros a
+twin-putMessage at m (Heartbeat t) a = twin-putFields at 0 m 0 2 (pos 0) t zeros a
 
 twin-putMarks : (i : ℕ) (ms : List Mark) {s s′ r r′ : List ℕ} → Twin s s′ r r′ → Twin s (putMarks s′ i ms) r (putMarks r′ i ms)
 unfolding putMarks

@@ -1,4 +1,4 @@
--- One call of `setup` or `step`, for any bytes: its answer and the table's bytes afterwards, refusals in document 01's order. Assumes nothing.
+-- One call of `setup` or `step`, for any bytes: its answer and the table's bytes afterwards, refusals in the order of R60.
 use Prim.Native.Nat.{ℕ}
 use mathlib.Core.Bool.{_&&_}
 use mathlib.Core.List.{List}
@@ -15,8 +15,8 @@ use Rattle.steps.specs.Step.{Called, gives, need, stepOn}
 unfoldable pub stepCall : (table event : List ℕ) → Called
 stepCall t e = need (eqb (length t) tableLength && eqb (length e) 32) 23 t (need (wellFormed t) 24 t (stepOn t e))
 
--- "23, then 11"
-unfoldable pub setupCall : List ℕ → (sites parts : ℕ) → Called
-setupCall t sites parts =
-    let c : Setting = record { sites = sites; parts = parts } in
+-- R61
+unfoldable pub setupCall : List ℕ → (sites partitions : ℕ) → Called
+setupCall t sites partitions =
+    let c : Setting = record { sites = sites; partitions = partitions } in
     need (eqb (length t) tableLength) 23 t (need (settingLawful c) 11 t (gives Done (fresh c)))

@@ -1,4 +1,4 @@
--- What may influence a step, on bytes: when two tables agree on all that document 01 lets an event look at, and what is then the same. Assumes nothing.
+-- What may influence a step, on bytes: when two tables agree on all that an event may look at (R73), and what is then the same.
 use Prim.Native.Nat.{ℕ, _+_, _-_, _%_, _<_}
 use mathlib.Core.Path.{_≡_}
 use mathlib.Core.Logic.{_⊎_}
@@ -19,7 +19,7 @@ use Rattle.archive.specs.Story.{isEvent}
 
 -- where the next message goes, in each channel of site m to another site
 unfoldable pub NextAlike : List ℕ → List ℕ → (m : ℕ) → Type 0
-NextAlike t u m = (p d : ℕ) → p < settingIn t .parts → d < settingIn t .sites - 1 →
+NextAlike t u m = (p d : ℕ) → p < settingIn t .partitions → d < settingIn t .sites - 1 →
     (frontIn (channelOf (siteOf t m) p d) + waitIn (channelOf (siteOf t m) p d)) % 8 ≡ (frontIn (channelOf (siteOf u m) p d) + waitIn (channelOf (siteOf u m) p d)) % 8
 
 -- where messages go, and where the one to be delivered is
@@ -40,7 +40,7 @@ pub record SameStep (t u : List ℕ) (c d : Called) : Type 0 where
   pub answer : c .answer ≡ d .answer
   pub bytes : SameWrites t (c .table) u (d .table)
 
--- "Among well-formed tables with equal site and partition numbers"; byte strings that are not events are refused without looking at the table
+-- of well-formed tables with equal numbers of sites and partitions; byte strings that are not events are refused without looking at the table
 abbrev pub InfluencedBytes : Type 0
 InfluencedBytes = (t u e : List ℕ) → length t ≡ tableLength → length u ≡ tableLength → Bytes t → Bytes u → T (wellFormed t) → T (wellFormed u) →
     settingIn t ≡ settingIn u → (T (isEvent e) → AgreeOn t u (place (eventOf e))) → SameStep t u (stepCall t e) (stepCall u e)

@@ -26,7 +26,7 @@ use Rattle.archive.specs.Story.{isEvent, eventsOf, tableAfter, linesOf, 
 
 -- the table t, of any bytes, set up for the constants
 abbrev pub setUp : Setting → List ℕ → List ℕ
-setUp c t = setupCall t (c .sites) (c .parts) .table
+setUp c t = setupCall t (c .sites) (c .partitions) .table
 
 -- of every table of the right length that setup made ready for lawful constants, with any list of byte strings to come
 abbrev pub FromSetup : (Setting → (table : List ℕ) → List (List ℕ) → Type 0) → Type 0
@@ -37,7 +37,7 @@ abbrev pub UntouchedBytes : Type 0
 UntouchedBytes = (t e : List ℕ) (w : Refusal) → stepCall t e .answer ≡ Refused w → stepCall t e .table ≡ t
 
 abbrev pub UntouchedSetup : Type 0
-UntouchedSetup = (t : List ℕ) (sites parts : ℕ) (w : Refusal) → setupCall t sites parts .answer ≡ Refused w → setupCall t sites parts .table ≡ t
+UntouchedSetup = (t : List ℕ) (sites partitions : ℕ) (w : Refusal) → setupCall t sites partitions .answer ≡ Refused w → setupCall t sites partitions .table ≡ t
 
 -- DEMAND 2, call after call: the table says the protocol's state, and what `step` answered is what the protocol answers; byte strings that are not events
 -- are refused before it and change nothing

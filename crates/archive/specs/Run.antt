@@ -1,4 +1,4 @@
--- Many events at once: what `step` gives one by one, for as many pieces as there is room for answers. Assumes nothing.
+-- Many events at once (R62): what `step` gives one by one, for as many pieces as there are places for answers.
 use Prim.Native.Nat.{ℕ, _+_, _/_, min}
 use mathlib.Core.List.{List}
 use lib.ListN.{length}

@@ -1,5 +1,5 @@
 -- Call after call of `step`: the table that a list of event byte strings leads to, and each event that reaches the protocol with the answer that
--- `step` gave. The past is worked out from these lines alone. Assumes nothing.
+-- `step` gave. The past is worked out from these lines alone.
 use Prim.Native.Nat.{ℕ, _+_}
 use mathlib.Core.Bool.{Bool, cond, _&&_}
 use mathlib.Core.List.{List, [], _∷_}

@@ -27,19 +27,19 @@ fn clear(t: &mut [u8])
 }
 
 // Makes everything empty with clocks and vectors 0, for 1 to 4 sites and partitions; any bytes may lie in the table before.
-pub fn setup(table: &mut [u8], sites: u32, parts: u32) -> Answer
-    ensures { λ r. ⌜ gives r (now (table .exit)) ≡ setupCall (now (table .entry)) sites parts ⌝ }
+pub fn setup(table: &mut [u8], sites: u32, partitions: u32) -> Answer
+    ensures { λ r. ⌜ gives r (now (table .exit)) ≡ setupCall (now (table .entry)) sites partitions ⌝ }
 {
     if table.len() != TABLE {
         return pieces::refused(23);
     }
-    let lawful = ((0 < sites) & (sites <= 4)) & ((0 < parts) & (parts <= 4));
+    let lawful = ((0 < sites) & (sites <= 4)) & ((0 < partitions) & (partitions <= 4));
     if !lawful {
         return pieces::refused(11);
     }
     clear(table);
     codec::store_le(table, 0, 1, sites as u64);
-    codec::store_le(table, 1, 1, parts as u64);
+    codec::store_le(table, 1, 1, partitions as u64);
     Answer::Done
 }
 
@@ -59,7 +59,7 @@ pub fn step(table: &mut [u8], event: &[u8]) -> Answer
     steps::step(table, event)
 }
 
-// How many pieces of 32 bytes there are, the last as long as it is, for which there is room for answers of 16 bytes.
+// How many pieces of 32 bytes there are, of which the last may be shorter, as far as there are places for answers of 16 bytes.
 fn pieces_for(events: usize, answers: usize) -> usize
     ensures { λ r. ⌜ r ≡ min ((events + 31) / 32) (answers / 16) ⌝ }
 {
@@ -78,11 +78,11 @@ pub fn run(table: &mut [u8], events: &[u8], answers: &mut [u8]) -> usize
 {
     let n = pieces_for(events.len(), answers.len());
     if table.len() != TABLE {
-        runs::turn_all_away(events, answers, n, 23);
+        runs::refuse_all(events, answers, n, 23);
         return n;
     }
     if !lawful::well_formed(table) {
-        runs::turn_all_away(events, answers, n, 24);
+        runs::refuse_all(events, answers, n, 24);
         return n;
     }
     runs::run(table, events, answers, n);

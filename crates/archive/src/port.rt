@@ -8,10 +8,10 @@ ghost use Rattle.archive.specs.Port.{Returned};
 use protocol::Values;
 
 #[no_mangle]
-pub extern "C" fn level_archive_setup(table: &mut [u8], sites: u32, parts: u32) -> Values
-    ensures { λ r. ⌜ Returned r (now (table .exit)) (setupCall (now (table .entry)) sites parts) ⌝ }
+pub extern "C" fn level_archive_setup(table: &mut [u8], sites: u32, partitions: u32) -> Values
+    ensures { λ r. ⌜ Returned r (now (table .exit)) (setupCall (now (table .entry)) sites partitions) ⌝ }
 {
-    protocol::values_of(crate::setup(table, sites, parts))
+    protocol::values_of(crate::setup(table, sites, partitions))
 }
 
 #[no_mangle]

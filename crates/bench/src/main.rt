@@ -1,6 +1,6 @@
-// The bench of document 01: events from standard input go into an archive of 4 sites and 4 partitions, and a line for each goes to standard output.
-// In order: the text of a line, lines, the reading in pieces of 64 KiB. Text goes behind what is there; where the output has no room left nothing is
-// written, and `room` sees to it that there is. No contract can say what is read or written. Assumes nothing.
+// The bench (R90 to R92): events from standard input go into an archive of 4 sites and 4 partitions, and a line for each goes to standard output.
+// In order: the text of a line, lines, the reading in pieces of 64 KiB. Text is appended; a full buffer would drop it, so
+// `room` writes the buffer out before each line. No contract can say what is read or written.
 ghost use Prim.Native.Nat.{_+_, _*_, _≤_};
 ghost use lib.ListN.{length};
 use libc::STDIN_FILENO;

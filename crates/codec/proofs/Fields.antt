@@ -1,5 +1,5 @@
 -- The laws of a run of fields: its length, a load outside of it, and what was put is shown, field by field. Each takes the tests of specs/Fields,
--- which antt computes for fields at literal places. Assumes nothing.
+-- which antt computes for fields at literal places.
 use mathlib.Core.Path.{_≡_, refl, _∙_}
 use mathlib.Core.Bool.{Bool, true, false, _&&_, _||_}
 use mathlib.Core.List.{List, [], _∷_}

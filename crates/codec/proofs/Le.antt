@@ -1,5 +1,5 @@
 -- The laws of little-endian numbers, each once, over the width. In order: what a put leaves as it was, what a load shows after a put, the range
--- of a load, and one byte more as the code counts. `Apart` is proved by `λ k a b c d. omega arith`, whichever run comes first. Assumes nothing.
+-- of a load, and one byte more as the code counts. `Apart` is proved by `λ k a b c d. omega arith`, whichever run comes first.
 use mathlib.Core.Path.{_≡_, refl, _∙_}
 use mathlib.Core.List.{List}
 use Prim.Native.Nat.{ℕ, zero, suc, _+_, _*_, _/_, _%_, _≤_, _<_}

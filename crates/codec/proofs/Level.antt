@@ -1,5 +1,5 @@
 -- The laws of a level's four bytes. In order: the two halves of `levelFrom`, `levelFrom` and `bitsOf` undo each other and give what is in range, and
--- the subtraction from −1 by which the code gets from one half to the other. Assumes nothing.
+-- the subtraction from −1 by which the code gets from one half to the other.
 use Prim.Native.Nat.{ℕ, zero, suc, _-_, _<_}
 use native.Mathlib.Nat.{zero-add}
 use native.Mathlib.Omega.{arith}

@@ -1,5 +1,5 @@
 -- The laws of a lent part. In order: its length, what a put or a load in the part is in the whole, what comes back to a caller that lent it,
--- and what a part shows after something was done to it or to another. Assumes nothing.
+-- and what a part shows after something was done to it or to another.
 use Prim.Native.Nat.{ℕ, zero, suc, _+_, _-_, _%_, _/_, _≤_, _<_}
 use native.Mathlib.Nat.{add-suc}
 use native.Mathlib.Decide.{decLt}

@@ -1,5 +1,5 @@
 -- The laws of a function's first n values. In order: their number, each of them, functions that agree, one more behind, and one less in front. The last two are
--- all that a store's slots and a channel's ring need. Assumes nothing.
+-- all that a store's slots and a channel's ring need.
 use Prim.Native.Nat.{ℕ, zero, suc, _+_, _-_, _<_}
 use native.Mathlib.Numerals.{add-one}
 use native.Mathlib.Omega.{arith}

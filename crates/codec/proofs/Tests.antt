@@ -1,6 +1,6 @@
--- Tests and choices: what holds of both sides of a choice holds of it, how a test is shown to pass, and tests joined in another order. What a passed
--- test says is in mir.Facts.
--- Assumes nothing.
+-- Tests and choices. In order: what holds of both sides of a choice; how a test is shown to pass; tests joined in another order; the code's test r equals the
+-- specified test x, so x is false where the code returns early (`fails`) and true where it goes on (`passes`); choices inside choices; a list of tests. What a
+-- passed test says is in mir.Facts.
 use Prim.Native.Nat.{ℕ, zero, suc}
 use mathlib.Core.Path.{_≡_, refl, subst, sym, ap, _∙_}
 use mathlib.Core.Bool.{Bool, true, false, cond, not, _&&_, _||_, and-assoc, and-comm}

@@ -1,5 +1,5 @@
 -- A run of fields that are put at one place, as data. In order: a field, the run put, the tests that antt computes (each field ends by n; no
--- two overlap), and what the run shows. The laws, which turn a test into what a load shows, are in proofs/Fields. Assumes nothing.
+-- two overlap), and what the run shows. The laws, which turn a test into what a load shows, are in proofs/Fields.
 use mathlib.Core.Path.{_≡_}
 use mathlib.Core.Bool.{Bool, true, _&&_, _||_}
 use mathlib.Core.List.{List, [], _∷_}

@@ -1,5 +1,5 @@
 -- Little-endian numbers of any width in a list of bytes. In order: what is read, what is written, the range of a width, and when two runs of
--- bytes are apart. The laws are in proofs/Le. Assumes nothing.
+-- bytes are apart. The laws are in proofs/Le.
 use Prim.Native.Nat.{ℕ, zero, suc, _+_, _*_, _/_, _%_, _≤_, _<_}
 use mathlib.Core.List.{List}
 use lib.ListN.{getD, set}

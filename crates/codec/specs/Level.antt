@@ -1,5 +1,5 @@
 -- A level is a signed number in four bytes, in two's complement: `levelFrom` of the four bytes' number, `bitsOf` of the level. The laws are in
--- proofs/Level. Assumes nothing.
+-- proofs/Level.
 use Prim.Native.Nat.{ℕ, _-_, _<_}
 use mathlib.Core.Bool.{cond}
 use lib.Dec.{ltb}

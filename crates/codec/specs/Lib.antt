@@ -1,9 +1,9 @@
--- Little-endian numbers, signed levels, parts that are lent and fields put one by one; and of lists what everybody uses: a function's first values, a test of every number
--- below n.
+-- Little-endian numbers, signed levels, a part of the bytes, a function's first values, a test of every number below n, a list of tests; fields put one by one.
 pub mod Le
 pub mod Level
 pub mod Part
-pub mod Fields
 pub mod Tabulate
 pub mod Below
 pub mod Tests
+-- ---- below the line: words of contracts inside and of proofs; nobody has to believe them
+pub mod Fields

@@ -1,5 +1,4 @@
 -- A part of the table that is lent: the k bytes from `off`, and the table with something done to them. The laws are in proofs/Part.
--- Assumes nothing.
 use mathlib.Core.Path.{_≡_}
 use mathlib.Core.List.{List}
 use Prim.Native.Nat.{ℕ}

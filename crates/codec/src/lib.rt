@@ -1,5 +1,5 @@
 // The numbers of a table and an event: little-endian, of 1, 4 and 8 bytes, and signed levels of 4. Reads and writes only the bytes named.
-// In order: a number of any width, the three widths that are used, levels. Assumes nothing.
+// In order: a number of any width, the three widths that are used, levels.
 ghost use mathlib.Core.Path.{_≡_};
 ghost use Prim.Native.Nat.{_+_, _≤_, _<_};
 ghost use lib.ListN.{length};

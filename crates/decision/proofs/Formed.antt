@@ -1,5 +1,5 @@
 -- What decisions ask of a well-formed table: the number of partitions, of a session the number of its marks and its site, and of a node how many
--- records it holds and whose they are. Assumes nothing.
+-- records it holds and whose they are.
 use Prim.Native.Nat.{ℕ, _+_, _≤_, _<_}
 use native.Mathlib.Omega.{arith}
 use mathlib.Core.Path.{_≡_, subst}
@@ -51,11 +51,11 @@ module _ (c : Setting) (x : Session) (y : T (sessionLawful c x)) where
 -- ---- of the table
 
 module _ (t : List ℕ) (w : T (wellFormed t)) where
-  pub parts-some : 0 < settingIn t .parts
-  parts-some = formed t w .part
+  pub parts-some : 0 < settingIn t .partitions
+  parts-some = formed t w .partition
 
-  pub parts-at-most : settingIn t .parts ≤ 4
-  parts-at-most = formed t w .parts
+  pub parts-at-most : settingIn t .partitions ≤ 4
+  parts-at-most = formed t w .partitions
 
   pub session-here : (s : ℕ) → s < 16 → sessionIn (sessionOf t s) .isOpen ≡ true → sessionIn (sessionOf t s) .site < 4
   session-here s h e =
@@ -75,7 +75,7 @@ module _ (t : List ℕ) (w : T (wellFormed t)) where
     pub node-held : heldIn n ≤ 32
     node-held =
         let c = settingIn t in
-        cond-elim (λ k. heldIn n ≤ k → heldIn n ≤ 32) (ltb m (c .sites) && ltb p (c .parts)) (λ y l. l) (λ y l. omega arith) (formed t w .node m p hm hp .held)
+        cond-elim (λ k. heldIn n ≤ k → heldIn n ≤ 32) (ltb m (c .sites) && ltb p (c .partitions)) (λ y l. l) (λ y l. omega arith) (formed t w .node m p hm hp .held)
 
     pub node-source : (k : ℕ) → k < heldIn n → recordAt n (slotAt k) .id .source < 4
     unfolding recordFormed recordAt

@@ -5,7 +5,7 @@ use mathlib.Core.Path.{_≡_, refl, sym, ap, _∙_}
 use mathlib.Core.List.{List, []}
 use lib.ListN.{length}
 use Rattle.vector.specs.Vec.{Vec}
-use Rattle.protocol.specs.Record.{partOf, Rec, Msg}
+use Rattle.protocol.specs.Record.{partitionOf, Rec, Msg}
 use Rattle.protocol.specs.State.{Session, closed}
 use Rattle.protocol.specs.Event.{Event, OPEN, CLOSE, GET, BEGIN, READ, END}
 use Rattle.protocol.specs.View.{ofSession, atSite, View, place, viewAt}
@@ -37,10 +37,10 @@ seenBy t x = sight t x (x .site) []
 
 -- of the node of a key at site m
 abbrev pub heardBy : List ℕ → (m k : ℕ) → Vec
-heardBy t m k = heardIn (nodeOf (siteOf t m) (partOf (settingIn t) k))
+heardBy t m k = heardIn (nodeOf (siteOf t m) (partitionOf (settingIn t) k))
 
 abbrev pub storedBy : List ℕ → (m k : ℕ) → List Rec
-storedBy t m k = storeIn (nodeOf (siteOf t m) (partOf (settingIn t) k))
+storedBy t m k = storeIn (nodeOf (siteOf t m) (partitionOf (settingIn t) k))
 
 -- ---- what an event of session s is answered, by the session x that was loaded
 

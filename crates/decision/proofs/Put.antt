@@ -1,5 +1,5 @@
 -- What PUT is answered, in the words of the bytes. In order: the site of an open session, when the clock is greater than two stamps, and the
--- answers by what the session says. Assumes nothing.
+-- answers by what the session says.
 use Prim.Native.Nat.{ℕ, max, _≤_, _<_}
 use native.Mathlib.Omega.{arith}
 use mathlib.Core.Path.{_≡_, refl, sym, subst, _∙_}
@@ -10,7 +10,7 @@ use lib.IntN.{ℤ}
 use mir.Facts.{and-yes, yes-and, ltb-yes}
 use Rattle.codec.specs.Le.{load}
 use Rattle.codec.proofs.Tests.{same-test}
-use Rattle.protocol.specs.Record.{partOf}
+use Rattle.protocol.specs.Record.{partitionOf}
 use Rattle.protocol.specs.State.{Session}
 use Rattle.protocol.specs.Event.{PUT}
 use Rattle.protocol.specs.View.{View}
@@ -44,7 +44,7 @@ after-both a b c =
     (λ y. let g : max a b < c = ltb-yes y in yes-and (ltb a c) (ltb b c) (lt→ltb a c (omega arith)) (lt→ltb b c (omega arith)))
 
 -- session s is x, and p is the key's partition
-module _ (t : List ℕ) (s k q : ℕ) (l : ℤ) (x : Session) (e : x ≡ sessionIn (sessionOf t s)) (p : ℕ) (e′ : p ≡ partOf (settingIn t) k) where
+module _ (t : List ℕ) (s k q : ℕ) (l : ℤ) (x : Session) (e : x ≡ sessionIn (sessionOf t s)) (p : ℕ) (e′ : p ≡ partitionOf (settingIn t) k) where
   abbrev v : View
   v = seenBy t x
 

@@ -1,5 +1,4 @@
 -- Room, as the bytes show it. In order: a node's records, and all channels of a node: by the sites that they lead to, and by their places.
--- Assumes nothing.
 use Prim.Native.Nat.{ℕ, _-_, _≤_, _<_}
 use native.Mathlib.Decide.{ℕ-discrete}
 use native.Mathlib.Omega.{arith}

@@ -1,11 +1,11 @@
--- What CLOCK and BEAT are answered, in the words of the bytes. Assumes nothing.
+-- What CLOCK and BEAT are answered, in the words of the bytes.
 use Prim.Native.Nat.{ℕ, _≤_, _<_}
 use mathlib.Core.Path.{_≡_, refl, _∙_}
 use mathlib.Core.Bool.{cond}
 use mathlib.Core.List.{List, [], _∷_}
 use lib.Dec.{leb, ltb}
 use Rattle.codec.specs.Le.{load}
-use Rattle.protocol.specs.Record.{Beat}
+use Rattle.protocol.specs.Record.{Heartbeat}
 use Rattle.protocol.specs.State.{closed}
 use Rattle.protocol.specs.Event.{CLOCK, BEAT}
 use Rattle.protocol.specs.Needs.{beatSends}
@@ -25,6 +25,6 @@ clock-answered t m p time = site-says t m (CLOCK m p time) refl ∙ clock-judged
 
 pub beat-answered : (t : List ℕ) (m p : ℕ) → m < load 1 t 0 → load 1 t 0 ≤ 4
     → answered (decode t) (BEAT m p)
-    ≡ cond (ltb (heardIn (nodeOf (siteOf t m) p) m) (clockIn (nodeOf (siteOf t m) p))) (cond (roomy t m p) (Done and Publish m p (Beat (clockIn (nodeOf (siteOf t m) p))) ∷ []) (refuse 21)) (Done and [])
+    ≡ cond (ltb (heardIn (nodeOf (siteOf t m) p) m) (clockIn (nodeOf (siteOf t m) p))) (cond (roomy t m p) (Done and Publish m p (Heartbeat (clockIn (nodeOf (siteOf t m) p))) ∷ []) (refuse 21)) (Done and [])
 unfolding beatSends
 beat-answered t m p h few = site-says t m (BEAT m p) refl ∙ beat-judged (sight t closed m []) m p ∙ rw (send-room t m p h few closed [])

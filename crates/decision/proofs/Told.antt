@@ -1,4 +1,4 @@
--- What is known of a session that was loaded: how many marks it has, and that the site of an open one exists. Assumes nothing.
+-- What is known of a session that was loaded: how many marks it has, and that the site of an open one exists.
 use Prim.Native.Nat.{ℕ, _<_}
 use mathlib.Core.Path.{_≡_, sym, ap, subst, _∙_}
 use mathlib.Core.Bool.{true}

@@ -4,7 +4,7 @@ ghost use mathlib.Core.Bool.{true};
 ghost use Prim.Native.Nat.{_≤_, _<_};
 ghost use lib.Dec.{T};
 ghost use Rattle.vector.specs.Entries.{entry};
-ghost use Rattle.protocol.specs.Record.{Setting, partOf, newest};
+ghost use Rattle.protocol.specs.Record.{Setting, partitionOf, newest};
 ghost use Rattle.parts.specs.Node.{heardIn, storeIn};
 ghost use Rattle.parts.specs.Session.{sessionIn};
 ghost use Rattle.parts.specs.Meaning.{asSession};
@@ -30,7 +30,7 @@ pub fn session(t: &[u8], s: u8) -> Session
 // "key k lives on partition k mod (number of partitions)"
 pub fn partition(t: &[u8], k: u8) -> u8
     requires { ⌜ Long (now t) × T (wellFormed (now t)) ⌝ }
-    ensures { λ r. ⌜ (r ≡ partOf (settingIn (now (t .entry))) k) × (r < 4) ⌝ }
+    ensures { λ r. ⌜ (r ≡ partitionOf (settingIn (now (t .entry))) k) × (r < 4) ⌝ }
 {
     limits::partition_of(k, codec::load_u8(t, 1))
 }

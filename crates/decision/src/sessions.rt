@@ -1,5 +1,5 @@
-// The decisions of a session without a page: OPEN, CLOSE and GET. Each takes the session, tests it from top to bottom as document 01's table of
-// numbers has it, and decides.
+// The decisions of a session without a page: OPEN, CLOSE and GET. Each takes the session, tests it from top to bottom as R60 has it,
+// and decides.
 ghost use mathlib.Core.Path.{_≡_};
 ghost use Prim.Native.Nat.{_<_};
 ghost use lib.Dec.{T};

@@ -1,5 +1,5 @@
 -- The page keys. In order: lawful keys as a test of every number below the count; an event's keys as the code tests them; keys that are all
--- zero. Assumes nothing.
+-- zero.
 use mathlib.Core.Path.{_≡_, refl, sym, subst, _∙_}
 use mathlib.Core.Bool.{true, _&&_, _||_}
 use mathlib.Core.List.{List}

@@ -1,5 +1,5 @@
 -- Refusal 11, field by field, is the zero test of what is not used with the protocol's ranges of what is. In order: the two tests of a field, what
--- each code asks of the fields that it uses, and the law. Assumes nothing.
+-- each code asks of the fields that it uses, and the law.
 use mathlib.Core.Path.{_≡_, refl, _∙_}
 use mathlib.Core.Bool.{Bool, true, false, not, _&&_, _||_, and-true, and-assoc}
 use mathlib.Core.List.{List}

@@ -1,5 +1,5 @@
 -- The values that the code loads say the event of the bytes, where these are lawful. In order: a field of a lawful event, the event, and what a
--- dispatcher knows that matches on the code. The key rules are `event-is` and `used-in-range`. Assumes nothing.
+-- dispatcher knows that matches on the code. The key rules are `event-is` and `used-in-range`.
 use mathlib.Core.Path.{_≡_, sym, ap, subst, _∙_}
 use mathlib.Core.Bool.{Bool, true, false, _&&_}
 use mathlib.Core.List.{List}

@@ -1,5 +1,5 @@
--- "An event is 32 bytes: 0 code, 1 site, 2 partition, 3 session, 4 key, 5 quality, 6 from, 7 count, 8–15 time, 16–19 level (signed), 20–27 page
--- keys, 28–31 zero." The event that they say, for any bytes. Assumes nothing.
+-- R30. An event is 32 bytes: 0 code, 1 site, 2 partition, 3 session, 4 key, 5 quality, 6 from, 7 count, 8–15 time, 16–19 level (signed), 20–27 page
+-- keys, 28–31 zero. Here is the event that they say, for any bytes.
 use Prim.Native.Nat.{ℕ, _+_, _-_}
 use mathlib.Core.Bool.{Bool, _&&_, true}
 use mathlib.Core.List.{List, [], _∷_}
@@ -12,7 +12,7 @@ use Rattle.codec.specs.Tabulate.{tabulate}
 use Rattle.protocol.specs.Event.{Event, OPEN, CLOSE, CLOCK, GET, PUT, BEGIN, READ, END, BEAT, DELIVER}
 use Rattle.protocol.specs.Needs.{Need}
 
--- "code isn't 1 to 10" is 10
+-- the code is 1 to 10; if not, the number is 10
 unfoldable pub codeLawful : List ℕ → Bool
 codeLawful e = ltb 0 (load 1 e 0) && ltb (load 1 e 0) 11
 

@@ -1,5 +1,5 @@
--- "Each code uses only the fields named for it in the table; all others must be zero." In order: the ten fields, which code uses which, where each
--- stands, and the test of what is not used. Assumes nothing.
+-- R31 and R33: each code uses the fields named for it, and all others are zero. In order: the ten fields, which code uses which, where each
+-- stands, and the test of what is not used.
 use Prim.Native.Nat.{ℕ, _+_, _-_}
 use mathlib.Core.Bool.{Bool, false, _&&_, _||_}
 use mathlib.Core.List.{List, [], _∷_}
@@ -77,7 +77,7 @@ uses row f = has (getD fieldsNamed row []) f
 unfoldable pub zeroAt : List ℕ → (at n : ℕ) → Bool
 zeroAt e at n = eqb (load n e at) 0
 
--- "Page keys beyond the count are zero"
+-- page keys beyond the count are zero
 unfoldable pub restZero : List ℕ → Bool
 restZero e = allBelow 8 (λ i. ltb i (load 1 e 7) || eqb (load 1 e (20 + i)) 0)
 

@@ -1,5 +1,5 @@
 -- Refusal 11 as the code tests it, field by field: each field's range, and a field that is zero where it is not used and in its range where it
--- is. That this is `unusedZero` with the protocol's `ranges` is proved in proofs/Ranges. Assumes nothing.
+-- is. That this is `unusedZero` with the protocol's `ranges` is proved in proofs/Ranges.
 use Prim.Native.Nat.{ℕ, _-_, _^_, min}
 use mathlib.Core.Bool.{Bool, false, not, _&&_, _||_}
 use mathlib.Core.List.{List, [], _∷_}
@@ -22,7 +22,7 @@ keysBelow ks count = allBelow (min 8 count) (λ i. ltb (getD ks i 0) 64)
 unfoldable pub inRange : Setting → Fields → List Bool
 inRange c x =
     ltb (x .site) (c .sites)
-    ∷ ltb (x .partition) (c .parts)
+    ∷ ltb (x .partition) (c .partitions)
     ∷ ltb (x .session) 16
     ∷ ltb (x .key) 64
     ∷ ltb (x .quality) 3

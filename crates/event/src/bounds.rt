@@ -27,13 +27,13 @@ pub fn keys_lawful(keys: [u8; 8], count: u8) -> bool
 }
 
 // A test for each field, in the order of the table of flags.
-pub fn in_range(x: Fields, sites: u8, parts: u8) -> [bool; 10]
-    ensures { λ r. ⌜ r ≡ inRange (record { sites = sites; parts = parts }) x ⌝ }
+pub fn in_range(x: Fields, sites: u8, partitions: u8) -> [bool; 10]
+    ensures { λ r. ⌜ r ≡ inRange (record { sites = sites; partitions = partitions }) x ⌝ }
 {
     let keys = x.keys;
     [
         x.site < sites,
-        x.partition < parts,
+        x.partition < partitions,
         x.session < 16,
         x.key < 64,
         x.quality < 3,

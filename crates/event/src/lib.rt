@@ -87,13 +87,13 @@ fn each_lawful(used: [bool; 10], zero: [bool; 10], within: [bool; 10]) -> bool
 }
 
 // "a used field out of range or an unused one not zero" is 11.
-pub fn fields_lawful(e: &[u8], sites: u8, parts: u8) -> bool
+pub fn fields_lawful(e: &[u8], sites: u8, partitions: u8) -> bool
     requires { ⌜ (length (now e) ≡ 32) × (codeLawful (now e) ≡ true) ⌝ }
-    ensures { λ r. ⌜ r ≡ (unusedZero (now (e .entry)) && met (ranges (record { sites = sites; parts = parts }) (eventOf (now (e .entry))))) ⌝ }
+    ensures { λ r. ⌜ r ≡ (unusedZero (now (e .entry)) && met (ranges (record { sites = sites; partitions = partitions }) (eventOf (now (e .entry))))) ⌝ }
 {
     let x = load_fields(e);
     let used = flags::used((x.code - 1) as usize);
-    let within = bounds::in_range(x, sites, parts);
+    let within = bounds::in_range(x, sites, partitions);
     each_lawful(used, flags::zero(e), within)
         & (flags::rest_zero(e) & (codec::load_u32(e, 28) == 0))
 }

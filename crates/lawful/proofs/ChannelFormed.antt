@@ -1,4 +1,4 @@
--- A channel's bytes stay well formed: when a lawful message goes behind the last, and when the front leaves. Assumes nothing.
+-- A channel's bytes stay well formed: when a lawful message goes behind the last, and when the front leaves.
 use Prim.Native.Nat.{ℕ, _+_, _-_, _%_, _≤_, _<_}
 use native.Mathlib.Omega.{arith}
 use mathlib.Core.Path.{_≡_, _∙_}
@@ -40,9 +40,9 @@ module _ (c : Setting) (i p d : ℕ) (b : List ℕ) (l : length b ≡ 464) where
     unfolding pushed waitIn span
     wait-pushed = load-put 1 u 1 (waitIn b + 1) (omega (arith, length-putMessage b last i x)) (omega arith)
 
-    pub pushed-kept : c .sites ≤ 4 → i < c .sites → p < c .parts → d < c .sites - 1 → LawfulMsg c i p x → ChannelFacts c i p d b → ChannelFacts c i p d (pushed i x b)
+    pub pushed-kept : c .sites ≤ 4 → i < c .sites → p < c .partitions → d < c .sites - 1 → LawfulMsg c i p x → ChannelFacts c i p d b → ChannelFacts c i p d (pushed i x b)
     pushed-kept few site part way ok F = record {
-      wait = rw (lt-ltb i (c .sites) site, lt-ltb p (c .parts) part, lt-ltb d (c .sites - 1) way) (omega (arith, wait-pushed));
+      wait = rw (lt-ltb i (c .sites) site, lt-ltb p (c .partitions) part, lt-ltb d (c .sites - 1) way) (omega (arith, wait-pushed));
       ring = λ k g. rw front-pushed (all k (omega (arith, wait-pushed)));
     }
       where

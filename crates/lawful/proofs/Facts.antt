@@ -1,6 +1,6 @@
 -- The facts of a well-formed table. In order: those of a session, a node, a channel, and the table, each with the test that they follow from and
 -- give back (`formed`, `well-formed`); then what the table says is lawful
--- (`says-lawful`). Assumes nothing.
+-- (`says-lawful`).
 use Prim.Native.Nat.{ℕ, zero, suc, _+_, _-_, _^_, _≤_, _<_}
 use native.Mathlib.Omega.{arith}
 use mathlib.Core.Path.{_≡_}
@@ -76,12 +76,12 @@ module _ (c : Setting) (b : List ℕ) where
 pub record NodeFacts (c : Setting) (m p : ℕ) (n : List ℕ) : Type 0 where
   pub clock : T (timeLawful (clockIn n))
   pub heard : T (vecLawful c (heardIn n))
-  pub held : heldIn n ≤ cond (ltb m (c .sites) && ltb p (c .parts)) 32 0
+  pub held : heldIn n ≤ cond (ltb m (c .sites) && ltb p (c .partitions)) 32 0
   pub slots : (k : ℕ) → k < heldIn n → T (recordFormed c p n (slotAt k))
 
 module _ (c : Setting) (m p : ℕ) (n : List ℕ) where
   abbrev most-held : ℕ
-  most-held = cond (ltb m (c .sites) && ltb p (c .parts)) 32 0
+  most-held = cond (ltb m (c .sites) && ltb p (c .partitions)) 32 0
 
   node-facts : T (nodeFormed c m p n) → NodeFacts c m p n
   unfolding nodeFormed
@@ -108,12 +108,12 @@ module _ (c : Setting) (m p : ℕ) (n : List ℕ) where
 -- ---- a channel
 
 pub record ChannelFacts (c : Setting) (i p d : ℕ) (b : List ℕ) : Type 0 where
-  pub wait : waitIn b ≤ cond ((ltb i (c .sites) && ltb p (c .parts)) && ltb d (c .sites - 1)) 8 0
+  pub wait : waitIn b ≤ cond ((ltb i (c .sites) && ltb p (c .partitions)) && ltb d (c .sites - 1)) 8 0
   pub ring : (k : ℕ) → k < waitIn b → T (messageFormed c i p b (ringAt (frontIn b) k))
 
 module _ (c : Setting) (i p d : ℕ) (b : List ℕ) where
   abbrev most-waiting : ℕ
-  most-waiting = cond ((ltb i (c .sites) && ltb p (c .parts)) && ltb d (c .sites - 1)) 8 0
+  most-waiting = cond ((ltb i (c .sites) && ltb p (c .partitions)) && ltb d (c .sites - 1)) 8 0
 
   channel-facts : T (channelFormed c i p d b) → ChannelFacts c i p d b
   unfolding channelFormed
@@ -154,24 +154,24 @@ module _ (c : Setting) (m : ℕ) (site : List ℕ) where
 pub record Formed (t : List ℕ) : Type 0 where
   pub site : 0 < settingIn t .sites
   pub sites : settingIn t .sites ≤ 4
-  pub part : 0 < settingIn t .parts
-  pub parts : settingIn t .parts ≤ 4
+  pub partition : 0 < settingIn t .partitions
+  pub partitions : settingIn t .partitions ≤ 4
   pub session : (s : ℕ) → s < 16 → SessionFacts (settingIn t) (sessionOf t s)
   pub node : (m p : ℕ) → m < 4 → p < 4 → NodeFacts (settingIn t) m p (nodeOf (siteOf t m) p)
   pub channel : (m p d : ℕ) → m < 4 → p < 4 → d < 3 → ChannelFacts (settingIn t) m p d (channelOf (siteOf t m) p d)
 
-pub setting-facts : (c : Setting) → T (settingLawful c) → (0 < c .sites) × (c .sites ≤ 4) × (0 < c .parts) × (c .parts ≤ 4)
+pub setting-facts : (c : Setting) → T (settingLawful c) → (0 < c .sites) × (c .sites ≤ 4) × (0 < c .partitions) × (c .partitions ≤ 4)
 unfolding settingLawful
 setting-facts c t =
-    let both = and-yes (ltb 0 (c .sites) && leb (c .sites) 4) (ltb 0 (c .parts) && leb (c .parts) 4) t in
+    let both = and-yes (ltb 0 (c .sites) && leb (c .sites) 4) (ltb 0 (c .partitions) && leb (c .partitions) 4) t in
     let sites = and-yes (ltb 0 (c .sites)) (leb (c .sites) 4) (both .0) in
-    let parts = and-yes (ltb 0 (c .parts)) (leb (c .parts) 4) (both .1) in (ltb-yes (sites .0), leb-yes (sites .1), ltb-yes (parts .0), leb-yes (parts .1))
+    let partitions = and-yes (ltb 0 (c .partitions)) (leb (c .partitions) 4) (both .1) in (ltb-yes (sites .0), leb-yes (sites .1), ltb-yes (partitions .0), leb-yes (partitions .1))
 
-setting-lawful : (c : Setting) → 0 < c .sites → c .sites ≤ 4 → 0 < c .parts → c .parts ≤ 4 → T (settingLawful c)
+setting-lawful : (c : Setting) → 0 < c .sites → c .sites ≤ 4 → 0 < c .partitions → c .partitions ≤ 4 → T (settingLawful c)
 unfolding settingLawful
 setting-lawful c a b d e =
-    yes-and (ltb 0 (c .sites) && leb (c .sites) 4) (ltb 0 (c .parts) && leb (c .parts) 4)
-    (yes-and (ltb 0 (c .sites)) (leb (c .sites) 4) (yes-ltb a) (yes-leb b)) (yes-and (ltb 0 (c .parts)) (leb (c .parts) 4) (yes-ltb d) (yes-leb e))
+    yes-and (ltb 0 (c .sites) && leb (c .sites) 4) (ltb 0 (c .partitions) && leb (c .partitions) 4)
+    (yes-and (ltb 0 (c .sites)) (leb (c .sites) 4) (yes-ltb a) (yes-leb b)) (yes-and (ltb 0 (c .partitions)) (leb (c .partitions) 4) (yes-ltb d) (yes-leb e))
 
 module _ (t : List ℕ) where
   abbrev sessions : Bool
@@ -186,14 +186,14 @@ module _ (t : List ℕ) where
       let c = settingIn t in
       let all = and-yes (settingLawful c) (sessions && all-sites) w in
       let fixed = setting-facts c (all .0) in
-      let parts = and-yes sessions all-sites (all .1) in
-      let site : (m : ℕ) → m < 4 → T (siteFormed c m (siteOf t m)) = all-below-at 4 (λ m. siteFormed c m (siteOf t m)) (parts .1) in
+      let partitions = and-yes sessions all-sites (all .1) in
+      let site : (m : ℕ) → m < 4 → T (siteFormed c m (siteOf t m)) = all-below-at 4 (λ m. siteFormed c m (siteOf t m)) (partitions .1) in
       record {
         site = fixed .0;
         sites = fixed .1;
-        part = fixed .2;
-        parts = fixed .3;
-        session = λ s h. session-facts-of c (sessionOf t s) (all-below-at 16 (λ s. sessionFormed c (sessionOf t s)) (parts .0) s h);
+        partition = fixed .2;
+        partitions = fixed .3;
+        session = λ s h. session-facts-of c (sessionOf t s) (all-below-at 16 (λ s. sessionFormed c (sessionOf t s)) (partitions .0) s h);
         node = λ m p h g. site-facts c m (siteOf t m) (site m h) p g .0;
         channel = λ m p d h g. site-facts c m (siteOf t m) (site m h) p g .1 d;
       }
@@ -202,7 +202,7 @@ module _ (t : List ℕ) where
   unfolding wellFormed
   well-formed F =
       let c = settingIn t in
-      yes-and (settingLawful c) (sessions && all-sites) (setting-lawful c (F .site) (F .sites) (F .part) (F .parts))
+      yes-and (settingLawful c) (sessions && all-sites) (setting-lawful c (F .site) (F .sites) (F .partition) (F .partitions))
       (yes-and sessions all-sites (all-below 16 (λ s. sessionFormed c (sessionOf t s)) (λ s h. session-formed c (sessionOf t s) (F .session s h)))
       (all-below 4 (λ m. siteFormed c m (siteOf t m)) (λ m h. site-formed c m (siteOf t m) (λ p. F .node m p h) (λ p d. F .channel m p d h))))
 
@@ -244,7 +244,7 @@ module _ (t : List ℕ) (F : Formed t) where
 
     store-most : length (decode t .net .store m p) ≤ 32
     store-most =
-        omega (arith, store-length t m p, cond-le (ltb m (settingIn t .sites) && ltb p (settingIn t .parts)) 32 (heldIn (nodeOf (siteOf t m) p)) (F .node m p h g .held))
+        omega (arith, store-length t m p, cond-le (ltb m (settingIn t .sites) && ltb p (settingIn t .partitions)) 32 (heldIn (nodeOf (siteOf t m) p)) (F .node m p h g .held))
 
     store-said : (r : Rec) → r ∈ decode t .net .store m p → LawfulRec (settingIn t) p r
     unfolding decode storeIn
@@ -269,7 +269,7 @@ module _ (t : List ℕ) (F : Formed t) where
         (λ d b.
         let w = channelOf (siteOf t i) p d in
         let c = settingIn t in
-        omega (arith, tab-length (waitIn w) (λ k. messageAt w (ringAt (frontIn w) k)), cond-le ((ltb i (c .sites) && ltb p (c .parts)) && ltb d (c .sites - 1)) 8 (waitIn w) (F .channel i p d h g b .wait)))
+        omega (arith, tab-length (waitIn w) (λ k. messageAt w (ringAt (frontIn w) k)), cond-le ((ltb i (c .sites) && ltb p (c .partitions)) && ltb d (c .sites - 1)) 8 (waitIn w) (F .channel i p d h g b .wait)))
 
     chan-said : (x : Msg) → x ∈ decode t .net .chan i m p → LawfulMsg (settingIn t) i p x
     unfolding queueIn
@@ -283,8 +283,8 @@ module _ (t : List ℕ) (F : Formed t) where
   unfolding decode
   says-lawful bytes = record {
     sites = F .sites;
-    part = F .part;
-    parts = F .parts;
+    partition = F .partition;
+    partitions = F .partitions;
     session = session-said bytes;
     clock = clock-said;
     heard = heard-said;

@@ -10,7 +10,7 @@ use lib.ListN.{length}
 use borrow.Author.Tests.{lt-ltb, le-ltb, ne-eqb}
 use Rattle.codec.specs.Le.{Bytes}
 use Rattle.codec.proofs.Tabulate.{tab-length}
-use Rattle.protocol.specs.Record.{Msg, Update, Beat}
+use Rattle.protocol.specs.Record.{Msg, Update, Heartbeat}
 use Rattle.protocol.specs.Event.{Event}
 use Rattle.protocol.specs.Change.{Change, SetSession, SetClock, Publish, Receive}
 use Rattle.protocol.specs.Step.{step}
@@ -55,18 +55,18 @@ chan-length t i m p h d =
 
 room-for : (t : List ℕ) (m p : ℕ) (x : Msg) → RoomIn x (decode t .net .store m p) → Room x (nodeOf (siteOf t m) p)
 room-for t m p (Update r) room = omega (arith, store-length t m p)
-room-for t m p (Beat s) room = tt
+room-for t m p (Heartbeat s) room = tt
 
 -- ---- changes
 
-pub lawful-fits : (c : Change) (t : List ℕ) → settingIn t .sites ≤ 4 → settingIn t .parts ≤ 4 → Bytes t → Lawful c (decode t) → Fits c t
+pub lawful-fits : (c : Change) (t : List ℕ) → settingIn t .sites ≤ 4 → settingIn t .partitions ≤ 4 → Bytes t → Lawful c (decode t) → Fits c t
 unfolding decode settingIn
 lawful-fits (SetSession s x) t few few′ bytes ok = (ok .0, session-fits (settingIn t) x few (ok .1))
 lawful-fits (SetClock m p c) t few few′ bytes ok = (omega (arith, ok .0), omega (arith, ok .1), time-fits c (ok .2))
 lawful-fits (Publish m p x) t few few′ bytes ok = record {
   site = ok .site;
   sites = few;
-  part = omega (arith, ok .part);
+  partition = omega (arith, ok .partition);
   msg = message-fits (settingIn t) m p x few (ok .msg);
   room = room-for t m p x (ok .room);
   ways = λ d h.
@@ -78,22 +78,22 @@ lawful-fits (Receive i m p x) t few few′ bytes ok = record {
   source = omega (arith, ok .source);
   site = omega (arith, ok .site);
   other = ok .other;
-  part = omega (arith, ok .part);
+  partition = omega (arith, ok .partition);
   msg = message-fits (settingIn t) i p x few (ok .msg);
   room = room-for t m p x (ok .room);
   bytes = bytes;
 }
 
-all-fit : (cs : List Change) (t : List ℕ) → Long t → settingIn t .sites ≤ 4 → settingIn t .parts ≤ 4 → Bytes t → LawfulAll cs (decode t) → FitsAll cs t
+all-fit : (cs : List Change) (t : List ℕ) → Long t → settingIn t .sites ≤ 4 → settingIn t .partitions ≤ 4 → Bytes t → LawfulAll cs (decode t) → FitsAll cs t
 all-fit [] t l few few′ bytes ok = tt
 all-fit (c ∷ cs) t l few few′ bytes ok =
     let fit = lawful-fits c t few few′ bytes (ok .0) in
     let same = setting-put c t l fit in (
       fit,
-      all-fit cs (putChange c t) (long-still t (putChange c t) (length-putChange c t l fit) l) (subst (λ k. k .sites ≤ 4) (sym same) few) (subst (λ k. k .parts ≤ 4) (sym same) few′)
+      all-fit cs (putChange c t) (long-still t (putChange c t) (length-putChange c t l fit) l) (subst (λ k. k .sites ≤ 4) (sym same) few) (subst (λ k. k .partitions ≤ 4) (sym same) few′)
           (bytes-putChange c t bytes) (subst (LawfulAll cs) (sym (decode-put c t l fit)) (ok .1)),
     )
 
 pub step-fits : (t : List ℕ) → Long t → Bytes t → T (wellFormed t) → (e : Event) → FitsAll (step (decode t) e .changes) t
 step-fits t l bytes w e =
-    let F = formed t w in all-fit (step (decode t) e .changes) t l (F .sites) (F .parts) bytes (step-lawful (decode t) (says-lawful t F bytes) e)
+    let F = formed t w in all-fit (step (decode t) e .changes) t l (F .sites) (F .partitions) bytes (step-lawful (decode t) (says-lawful t F bytes) e)

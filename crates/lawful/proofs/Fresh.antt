@@ -1,5 +1,5 @@
 -- A fresh table of a lawful setting is well formed: it says what a setup holds, and its flags are 0. `replicate` stays shut: only that all of its
--- elements are 0 is used. Assumes nothing.
+-- elements are 0 is used.
 use Prim.Native.Nat.{ℕ, _+_, _≤_, _<_}
 use native.Mathlib.Decide.{decLt}
 use native.Mathlib.Omega.{arith}
@@ -45,7 +45,7 @@ blank-fresh : (c : Setting) (i : ℕ) → 2 ≤ i → Zero (getD (fresh c) i 0)
 unfolding fresh
 blank-fresh c i h =
     let t : List ℕ = replicate tableLength 0 in
-    getD-put-other 1 (put 1 t 0 (c .sites)) 1 (c .parts) i (λ a b. omega arith) ∙ getD-put-other 1 t 0 (c .sites) i (λ a b. omega arith) ∙ blank-replicate tableLength i
+    getD-put-other 1 (put 1 t 0 (c .sites)) 1 (c .partitions) i (λ a b. omega arith) ∙ getD-put-other 1 t 0 (c .sites) i (λ a b. omega arith) ∙ blank-replicate tableLength i
 
 session-blank : (c : Setting) (s j : ℕ) → load 1 (sessionOf (fresh c) s) j < 2
 unfolding load
@@ -91,8 +91,8 @@ fresh-formed c ok =
     (record {
       site = subst (λ k. 0 < k .sites) (sym same) (fixed .0);
       sites = subst (λ k. k .sites ≤ 4) (sym same) (fixed .1);
-      part = subst (λ k. 0 < k .parts) (sym same) (fixed .2);
-      parts = subst (λ k. k .parts ≤ 4) (sym same) (fixed .3);
+      partition = subst (λ k. 0 < k .partitions) (sym same) (fixed .2);
+      partitions = subst (λ k. k .partitions ≤ 4) (sym same) (fixed .3);
       session = λ s h.
           record {
             isOpen = session-blank c s 0;

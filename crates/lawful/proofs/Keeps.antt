@@ -45,8 +45,8 @@ formed-again : (t u : List ℕ) → settingIn u ≡ settingIn t → Formed t
 formed-again t u same F session node channel = record {
   site = subst (λ c. 0 < c .sites) (sym same) (F .site);
   sites = subst (λ c. c .sites ≤ 4) (sym same) (F .sites);
-  part = subst (λ c. 0 < c .parts) (sym same) (F .part);
-  parts = subst (λ c. c .parts ≤ 4) (sym same) (F .parts);
+  partition = subst (λ c. 0 < c .partitions) (sym same) (F .partition);
+  partitions = subst (λ c. c .partitions ≤ 4) (sym same) (F .partitions);
   session = λ s h. subst (λ c. SessionFacts c (sessionOf u s)) (sym same) (session s h);
   node = λ m p h g. subst (λ c. NodeFacts c m p (nodeOf (siteOf u m) p)) (sym same) (node m p h g);
   channel = λ m p d h g k. subst (λ c. ChannelFacts c m p d (channelOf (siteOf u m) p d)) (sym same) (channel m p d h g k);
@@ -67,7 +67,7 @@ module _ (t : List ℕ) (l : Long t) (F : Formed t) where
   module _ (m : ℕ) (f : List ℕ → List ℕ) (h : m < 4) (keeps : Keeps 13056 f) where
     same-setting : settingIn (onSite m f t) ≡ settingIn t
     unfolding settingIn
-    same-setting = λ z. record { sites = load-onSite t m f l h keeps 1 0 (omega arith) z; parts = load-onSite t m f l h keeps 1 1 (omega arith) z }
+    same-setting = λ z. record { sites = load-onSite t m f l h keeps 1 0 (omega arith) z; partitions = load-onSite t m f l h keeps 1 1 (omega arith) z }
 
     onSite-formed : Nodes (onSite m f t) → Ways (onSite m f t) → Formed (onSite m f t)
     onSite-formed node channel = formed-again t (onSite m f t) same-setting F (λ s b. rw (session-onSite t m f l h keeps s) (F .session s b)) node channel
@@ -94,7 +94,7 @@ module _ (t : List ℕ) (l : Long t) (F : Formed t) where
 
 module _ (t : List ℕ) (l : Long t) (bytes : Bytes t) (F : Formed t) where
   fits : (c : Change) → Lawful c (decode t) → Fits c t
-  fits c ok = lawful-fits c t (F .sites) (F .parts) bytes ok
+  fits c ok = lawful-fits c t (F .sites) (F .partitions) bytes ok
 
   module _ (s : ℕ) (x : Session) (ok : Lawful (SetSession s x) (decode t)) where
     put-keeps : Keeps 128 (putSession x)
@@ -135,20 +135,20 @@ module _ (t : List ℕ) (l : Long t) (bytes : Bytes t) (F : Formed t) where
     node-published : NodeFacts (settingIn t) m p (published m x (nodeOf (siteOf t m) p))
     unfolding decode
     node-published =
-        let part = fit-publish .part in
-        published-kept (settingIn t) m p (F .sites) (ok .site) (ok .part) x (nodeOf (siteOf t m) p) (length-nodeOf t m p l there part) (ok .msg) (fit-publish .room) (F .node m p there part)
+        let part = fit-publish .partition in
+        published-kept (settingIn t) m p (F .sites) (ok .site) (ok .partition) x (nodeOf (siteOf t m) p) (length-nodeOf t m p l there part) (ok .msg) (fit-publish .room) (F .node m p there part)
 
     channel-published : (d : ℕ) → d < 3 → d < n → ChannelFacts (settingIn t) m p d (pushed m x (channelOf (siteOf t m) p d))
     unfolding decode settingIn
     channel-published d h g =
-        let part = fit-publish .part in
-        pushed-kept (settingIn t) m p d (channelOf (siteOf t m) p d) (length-channelOf t m p l there part d h) x (fit-publish .ways d g) (F .sites) (ok .site) (ok .part) g (ok .msg) (F .channel m p d there part h)
+        let part = fit-publish .partition in
+        pushed-kept (settingIn t) m p d (channelOf (siteOf t m) p d) (length-channelOf t m p l there part d h) x (fit-publish .ways d g) (F .sites) (ok .site) (ok .partition) g (ok .msg) (F .channel m p d there part h)
 
     publish-formed : Formed (putChange (Publish m p x) t)
     unfolding putChange settingIn
     publish-formed =
         let c = settingIn t in
-        let part = fit-publish .part in
+        let part = fit-publish .partition in
         let few : n ≤ 3 = omega (arith, F .sites) in
         onSite-formed t l F m (publishedOn n m p x) there (publishedOn-keeps t n m p x l there part few)
         (λ j q h g.
@@ -177,15 +177,15 @@ module _ (t : List ℕ) (l : Long t) (bytes : Bytes t) (F : Formed t) where
     unfolding decode
     node-received =
         let site = fit-receive .site in
-        let part = fit-receive .part in
+        let part = fit-receive .partition in
         onNode-formed t l F m p (received i x) site part received-keeps
-        (received-kept (settingIn t) m p (F .sites) (ok .site) (ok .part) i x (nodeOf (siteOf t m) p) (length-nodeOf t m p l site part) (ok .source) (ok .msg) (fit-receive .room) (F .node m p site part))
+        (received-kept (settingIn t) m p (F .sites) (ok .site) (ok .partition) i x (nodeOf (siteOf t m) p) (length-nodeOf t m p l site part) (ok .source) (ok .msg) (fit-receive .room) (F .node m p site part))
 
     receive-formed : Formed (putChange (Receive i m p x) t)
     unfolding putChange
     receive-formed =
         let site = fit-receive .site in
-        let part = fit-receive .part in
+        let part = fit-receive .partition in
         let near = place-lt 4 i m (fit-receive .source) site (fit-receive .other) in
         let long = long-still t u (length-onSite t m (onNode p (received i x)) l site (onNode-keeps t m p (received i x) l site part received-keeps)) l in
         onChannel-formed u long node-received i p (placeOf i m) popped (fit-receive .source) part near (λ b e. length-popped b ∙ e)
@@ -205,7 +205,7 @@ changes-formed : (cs : List Change) (t : List ℕ) → Long t → Bytes t → Fo
 unfolding putChanges
 changes-formed [] t l bytes F ok = F
 changes-formed (c ∷ cs) t l bytes F ok =
-    let fit = lawful-fits c t (F .sites) (F .parts) bytes (ok .0) in
+    let fit = lawful-fits c t (F .sites) (F .partitions) bytes (ok .0) in
     changes-formed cs (putChange c t) (long-still t (putChange c t) (length-putChange c t l fit) l) (bytes-putChange c t bytes) (change-formed t l bytes F c (ok .0))
     (subst (LawfulAll cs) (sym (decode-put c t l fit)) (ok .1))
 

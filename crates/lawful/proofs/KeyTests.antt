@@ -1,5 +1,5 @@
 -- The tests of page keys with one key more behind: all in range, k among them, all different. In order: of any list; of a function's first n
--- values, as tests of every number below n; and a session's page by its bytes. Assumes nothing.
+-- values, as tests of every number below n; and a session's page by its bytes.
 use mathlib.Core.Path.{_≡_, refl, sym, ap, _∙_}
 use mathlib.Core.Bool.{Bool, true, false, not, _&&_, _||_, and-true, and-assoc, or-false, or-assoc}
 use mathlib.Core.List.{List, [], _∷_, _++_}

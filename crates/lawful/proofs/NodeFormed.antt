@@ -1,5 +1,5 @@
 -- A node's bytes stay well formed: when its clock is set, and when a stamp and a lawful message come to it. In order: the clock, a stamp in one
--- entry, an update stored behind the others, then its own message and another's. Assumes nothing.
+-- entry, an update stored behind the others, then its own message and another's.
 use Prim.Native.Nat.{ℕ, _+_, _*_, _^_, max, _≤_, _<_}
 use native.Mathlib.Omega.{arith}
 use mathlib.Core.Path.{_≡_, _∙_}
@@ -13,7 +13,7 @@ use Rattle.codec.specs.Le.{load, put, span, Apart}
 use Rattle.codec.proofs.Le.{length-put, load-put, load-put-other}
 use Rattle.vector.specs.Vec.{width, withEntry}
 use Rattle.vector.proofs.Entries.{loadVec-below, loadVec-beyond}
-use Rattle.protocol.specs.Record.{Setting, Rec, Msg, Update, Beat, stampIn}
+use Rattle.protocol.specs.Record.{Setting, Rec, Msg, Update, Heartbeat, stampIn}
 use Rattle.record.specs.RecordBytes.{putRecord}
 use Rattle.record.specs.Ranges.{timeLawful, vecLawful}
 use Rattle.record.specs.RecordFormed.{recordFormed}
@@ -58,8 +58,8 @@ module _ (c : Setting) (m p : ℕ) where
     entry-kept : NodeFacts c m p n → NodeFacts c m p (put 8 n (8 + 8 * i) v)
     unfolding published stored stampIn
     entry-kept F =
-        let clock : clockIn (put 8 n (8 + 8 * i) v) ≡ clockIn n = clock-published i (Beat v) n l (omega arith) in
-        let heard : heardIn (put 8 n (8 + 8 * i) v) ≡ withEntry (heardIn n) i v = heard-published i (Beat v) n l (omega arith) (time-fits v b) in
+        let clock : clockIn (put 8 n (8 + 8 * i) v) ≡ clockIn n = clock-published i (Heartbeat v) n l (omega arith) in
+        let heard : heardIn (put 8 n (8 + 8 * i) v) ≡ withEntry (heardIn n) i v = heard-published i (Heartbeat v) n l (omega arith) (time-fits v b) in
         facts-before n 8 (8 + 8 * i) v (omega arith) (rw clock (F .clock))
         (rw heard (vec-lawful c (withEntry (heardIn n) i v) (with-entry-lawful c (heardIn n) i v (heard-lawful n F) h b))) F
 
@@ -94,19 +94,19 @@ module _ (c : Setting) (m p : ℕ) where
         (rw (record-formed-ext c p (stored (Update r) n) u (slotAt (heldIn n)) (λ w j a b. unfold stored in load-put-other w 1 u 40 (heldIn n + 1) j (λ i d e f h. omega arith)))
         (record-formed-put c few p n (slotAt (heldIn n)) (omega arith) r ok))
 
-  module _ (few : c .sites ≤ 4) (site : m < c .sites) (part : p < c .parts) where
+  module _ (few : c .sites ≤ 4) (site : m < c .sites) (part : p < c .partitions) where
     stored-kept : (i : ℕ) (x : Msg) (n : List ℕ) → length n ≡ 1856 → LawfulMsg c i p x → Room x n → NodeFacts c m p n → NodeFacts c m p (stored x n)
     stored-kept i (Update r) n l ok room F = record {
       clock = rw (clock-update r n l room) (F .clock);
       heard = rw (heard-update r n l room) (F .heard);
-      held = rw (lt-ltb m (c .sites) site, lt-ltb p (c .parts) part) (omega (arith, held-update r n l room));
+      held = rw (lt-ltb m (c .sites) site, lt-ltb p (c .partitions) part) (omega (arith, held-update r n l room));
       slots = λ k b. slots-update r n l room few (ok .1) F k (omega (arith, held-update r n l room));
     }
-    stored-kept i (Beat t) n l ok room F = unfold stored in F
+    stored-kept i (Heartbeat t) n l ok room F = unfold stored in F
 
     room-entry : (x : Msg) (n : List ℕ) (i v : ℕ) → i < 4 → Room x n → Room x (put 8 n (8 + 8 * i) v)
     room-entry (Update r) n i v h room = omega (arith, held-before n 8 (8 + 8 * i) v (omega arith))
-    room-entry (Beat t) n i v h room = tt
+    room-entry (Heartbeat t) n i v h room = tt
 
     -- a lawful message of site i, with a stamp in its entry
     message-kept : (i v : ℕ) (x : Msg) (n : List ℕ) → length n ≡ 1856 → i < c .sites → v < 2 ^ 48 → LawfulMsg c i p x → Room x n → NodeFacts c m p n → NodeFacts c m p (stored x (put 8 n (8 + 8 * i) v))

@@ -1,5 +1,5 @@
 -- What a step changes is lawful, where what it looks at is. In order: lawful changes, a session, what a page shows and what a message wants, then
--- every event and every step. Of states alone: no bytes. Assumes nothing.
+-- every event and every step. Of states alone: no bytes.
 use Prim.Native.Nat.{ℕ, _^_, _≤_, _<_}
 use native.Mathlib.Nat.{mod-lt}
 use native.Mathlib.Omega.{arith}
@@ -15,7 +15,7 @@ use mir.Facts.{and-yes, or-yes, ltb-yes, leb-yes, eqb-yes, eqb-no}
 use Rattle.codec.proofs.Tests.{cond-elim, implies}
 use Rattle.codec.proofs.Below.{all-below-at}
 use Rattle.vector.specs.Vec.{Vec, larger, withEntry}
-use Rattle.protocol.specs.Record.{Setting, partOf, Rec, Msg, Update, Beat, newest, ofKey, fitsPage, raisedBy}
+use Rattle.protocol.specs.Record.{Setting, partitionOf, Rec, Msg, Update, Heartbeat, newest, ofKey, fitsPage, raisedBy}
 use Rattle.protocol.specs.State.{Mark, Page, Session, State, noPage, closed, opened, withVec, withPage}
 use Rattle.protocol.specs.Event.{Event, OPEN, CLOSE, CLOCK, GET, PUT, BEGIN, READ, END, BEAT, DELIVER}
 use Rattle.protocol.specs.View.{View, view}
@@ -35,11 +35,11 @@ use Rattle.lawful.proofs.Values.{LawfulPage, marks-fit, LawfulSession, 
 -- an update wants a place of the store
 abbrev pub RoomIn : Msg → List Rec → Type 0
 RoomIn (Update r) l = length l < 32
-RoomIn (Beat t) l = Unit {0}
+RoomIn (Heartbeat t) l = Unit {0}
 
 pub record LawfulPublish (m p : ℕ) (x : Msg) (S : State) : Type 0 where
   pub site : m < S .net .setting .sites
-  pub part : p < S .net .setting .parts
+  pub partition : p < S .net .setting .partitions
   pub msg : LawfulMsg (S .net .setting) m p x
   pub room : RoomIn x (S .net .store m p)
   pub ways : (j : ℕ) → j < S .net .setting .sites → (j ≡ m → ⊥) → length (S .net .chan m j p) < 8
@@ -48,13 +48,13 @@ pub record LawfulReceive (i m p : ℕ) (x : Msg) (S : State) : Type 0 where
   pub source : i < S .net .setting .sites
   pub site : m < S .net .setting .sites
   pub other : i ≡ m → ⊥
-  pub part : p < S .net .setting .parts
+  pub partition : p < S .net .setting .partitions
   pub msg : LawfulMsg (S .net .setting) i p x
   pub room : RoomIn x (S .net .store m p)
 
 abbrev pub Lawful : Change → State → Type 0
 Lawful (SetSession s x) S = (s < 16) × LawfulSession (S .net .setting) x
-Lawful (SetClock m p t) S = (m < S .net .setting .sites) × (p < S .net .setting .parts) × (t < 2 ^ 48)
+Lawful (SetClock m p t) S = (m < S .net .setting .sites) × (p < S .net .setting .partitions) × (t < 2 ^ 48)
 Lawful (Publish m p x) S = LawfulPublish m p x S
 Lawful (Receive i m p x) S = LawfulReceive i m p x S
 
@@ -148,7 +148,7 @@ store-room l t = ltb-yes t
 front-room : (x : Msg) (q : List Msg) (l : List Rec) → T (not (frontUpdates (x ∷ q)) || storeRoom l) → RoomIn x l
 unfolding frontUpdates
 front-room (Update r) q l t = store-room l t
-front-room (Beat s) q l t = tt
+front-room (Heartbeat s) q l t = tt
 
 -- ---- every event
 
@@ -156,9 +156,9 @@ module _ (S : State) (ok : LawfulState S) where
   abbrev c : Setting
   c = S .net .setting
 
-  part-lt : (k : ℕ) → partOf c k < c .parts
-  unfolding partOf
-  part-lt k = mod-lt k (ok .part)
+  part-lt : (k : ℕ) → partitionOf c k < c .partitions
+  unfolding partitionOf
+  part-lt k = mod-lt k (ok .partition)
 
   -- a session that is open
   module _ (s : ℕ) (h : s < 16) (t : T (S .session s .isOpen)) where
@@ -177,36 +177,36 @@ module _ (S : State) (ok : LawfulState S) where
     page-set : (g : Page) → LawfulPage c g → LawfulAll (SetSession s (withPage x g) ∷ []) S
     page-set g a = ((h, with-page-lawful c x g (ok .session s h) a), tt)
 
-    raised-set : (k : ℕ) (fit : Rec → Bool) (v : Vec) → LawfulVec c v → LawfulVec c (raisedBy v (newest c fit (S .net .store (x .site) (partOf c k))))
+    raised-set : (k : ℕ) (fit : Rec → Bool) (v : Vec) → LawfulVec c v → LawfulVec c (raisedBy v (newest c fit (S .net .store (x .site) (partitionOf c k))))
     raised-set k fit v a =
-        let p = partOf c k in
-        found-lawful c p (S .net .store (x .site) p) fit v (ok .store (x .site) p real (omega (arith, part-lt k, ok .parts))) a
+        let p = partitionOf c k in
+        found-lawful c p (S .net .store (x .site) p) fit v (ok .store (x .site) p real (omega (arith, part-lt k, ok .partitions))) a
 
-    put-set : (k q : ℕ) (l : ℤ) → k < 64 → q < 3 → T (levelLawful l) → length (S .net .store (x .site) (partOf c k)) < 32
-        → ((j : ℕ) → j < c .sites → (j ≡ x .site → ⊥) → length (S .net .chan (x .site) j (partOf c k)) < 8)
-        → LawfulAll (Publish (x .site) (partOf c k) (Update (written x k q l (S .net .clock (x .site) (partOf c k)))) ∷ SetSession s (withVec x (withEntry (x .vec) (x .site) (S .net .clock (x .site) (partOf c k)))) ∷ []) S
+    put-set : (k q : ℕ) (l : ℤ) → k < 64 → q < 3 → T (levelLawful l) → length (S .net .store (x .site) (partitionOf c k)) < 32
+        → ((j : ℕ) → j < c .sites → (j ≡ x .site → ⊥) → length (S .net .chan (x .site) j (partitionOf c k)) < 8)
+        → LawfulAll (Publish (x .site) (partitionOf c k) (Update (written x k q l (S .net .clock (x .site) (partitionOf c k)))) ∷ SetSession s (withVec x (withEntry (x .vec) (x .site) (S .net .clock (x .site) (partitionOf c k)))) ∷ []) S
     unfolding written apply publish
     put-set k q l a b d room ways =
-        let p = partOf c k in
+        let p = partitionOf c k in
         let part = part-lt k in
-        let clock = ok .clock (x .site) p real (omega (arith, ok .parts)) in
+        let clock = ok .clock (x .site) p real (omega (arith, ok .partitions)) in
         let X = ok .session s h in (
           record {
             site = here;
-            part = part;
-            msg = (refl, record { key = a; part = refl; source = here; quality = b; level = d; stamp = clock; carried = X .vec });
+            partition = part;
+            msg = (refl, record { key = a; partition = refl; source = here; quality = b; level = d; stamp = clock; carried = X .vec });
             room = room;
             ways = ways;
           },
           ((h, with-vec-lawful c x (withEntry (x .vec) (x .site) (S .net .clock (x .site) p)) X (with-entry-lawful c (x .vec) (x .site) (S .net .clock (x .site) p) (X .vec) here clock)), tt),
         )
 
-  take-set : (i m p : ℕ) (q : List Msg) → i < c .sites → m < c .sites → (i ≡ m → ⊥) → p < c .parts → ((y : Msg) → y ∈ q → LawfulMsg c i p y)
+  take-set : (i m p : ℕ) (q : List Msg) → i < c .sites → m < c .sites → (i ≡ m → ⊥) → p < c .partitions → ((y : Msg) → y ∈ q → LawfulMsg c i p y)
       → T (not (frontUpdates q) || storeRoom (S .net .store m p)) → LawfulAll (taken i m p q) S
   unfolding taken
   take-set i m p [] a b d e all room = tt
   take-set i m p (y ∷ q) a b d e all room =
-      (record { source = a; site = b; other = d; part = e; msg = all y (List·Memᴰ·head refl); room = front-room y q (S .net .store m p) room }, tt)
+      (record { source = a; site = b; other = d; partition = e; msg = all y (List·Memᴰ·head refl); room = front-room y q (S .net .store m p) room }, tt)
 
   serve-lawful : (e : Event) → Met (ranges c e) → Met (needs (view S e) e) → LawfulAll (serve (view S e) e .changes) S
   unfolding serve needs ranges
@@ -216,27 +216,27 @@ module _ (S : State) (ok : LawfulState S) where
   serve-lawful (GET s k) r t =
       let h : s < 16 = ltb-yes (r .0) in
       let X = ok .session s h in
-      let v = raisedBy (S .session s .vec) (newest c (ofKey k) (S .net .store (S .session s .site) (partOf c k))) in
+      let v = raisedBy (S .session s .vec) (newest c (ofKey k) (S .net .store (S .session s .site) (partitionOf c k))) in
       vec-set s h (t .0) v (raised-set s h (t .0) k (ofKey k) (S .session s .vec) (X .vec))
   serve-lawful (PUT s k q l) r t =
       let m = S .session s .site in
-      put-set s (ltb-yes (r .0)) (t .0) k q l (ltb-yes (r .1 .0)) (ltb-yes (r .1 .1 .0)) (r .1 .1 .1 .0) (store-room (S .net .store m (partOf c k)) (t .1 .1 .0))
-      (send-room (view S (PUT s k q l)) m (partOf c k) (t .1 .1 .1 .0))
+      put-set s (ltb-yes (r .0)) (t .0) k q l (ltb-yes (r .1 .0)) (ltb-yes (r .1 .1 .0)) (r .1 .1 .1 .0) (store-room (S .net .store m (partitionOf c k)) (t .1 .1 .0))
+      (send-room (view S (PUT s k q l)) m (partitionOf c k) (t .1 .1 .1 .0))
   serve-lawful (BEGIN s p ks) r t =
       let h : s < 16 = ltb-yes (r .1 .0) in
       let X = ok .session s h in
       let v = S .net .heard (S .session s .site) p in
-      let part : p < c .parts = ltb-yes (r .0) in
+      let part : p < c .partitions = ltb-yes (r .0) in
       let count = and-yes (ltb 0 (length ks)) (leb (length ks) 8) (r .1 .1 .0) in
       page-set s h (t .0) (begun v (S .session s .vec) ks)
       (begun-lawful c v (S .session s .vec) ks (ltb-yes (count .0)) (leb-yes (count .1)) (r .1 .1 .1 .0) (t .1 .1 .0)
-      (ok .heard (S .session s .site) p (real s h (t .0)) (omega (arith, ok .parts))) (X .vec))
+      (ok .heard (S .session s .site) p (real s h (t .0)) (omega (arith, ok .partitions))) (X .vec))
   serve-lawful (READ s k) r t =
       let h : s < 16 = ltb-yes (r .0) in
       let X = ok .session s h in
       let g = S .session s .page in
       let fit = fitsPage k (g .vec) in
-      let o = newest c fit (S .net .store (S .session s .site) (partOf c k)) in
+      let o = newest c fit (S .net .store (S .session s .site) (partitionOf c k)) in
       page-set s h (t .0) (readOn g k o)
       (read-lawful c g k o (t .1 .0) (X .page) (raised-set s h (t .0) k fit (g .gathered) (X .page .gathered)))
   serve-lawful (END s) r t =
@@ -247,14 +247,14 @@ module _ (S : State) (ok : LawfulState S) where
       ((h, with-page-lawful c (withVec x v) noPage (with-vec-lawful c x v X (larger-lawful c (x .vec) (x .page .gathered) (X .vec) (X .page .gathered))) (no-page-lawful c)), tt)
   serve-lawful (BEAT m p) r t =
       let site : m < c .sites = ltb-yes (r .0) in
-      let part : p < c .parts = ltb-yes (r .1 .0) in
+      let part : p < c .partitions = ltb-yes (r .1 .0) in
       let sends = beatSends (S .net .heard m p m) (S .net .clock m p) in
       cond-elim (λ cs. LawfulAll cs S) sends
       (λ u. (
         record {
           site = site;
-          part = part;
-          msg = ok .clock m p (omega (arith, ok .sites)) (omega (arith, ok .parts));
+          partition = part;
+          msg = ok .clock m p (omega (arith, ok .sites)) (omega (arith, ok .partitions));
           room = tt;
           ways = send-room (view S (BEAT m p)) m p (implies sends (sendRoom (view S (BEAT m p)) m p) (t .0) u);
         },
@@ -262,10 +262,10 @@ module _ (S : State) (ok : LawfulState S) where
       )) (λ u. tt)
   serve-lawful (DELIVER i m p) r t =
       let site : m < c .sites = ltb-yes (r .0) in
-      let part : p < c .parts = ltb-yes (r .1 .0) in
+      let part : p < c .partitions = ltb-yes (r .1 .0) in
       let from = and-yes (ltb i (c .sites)) (not (eqb i m)) (r .1 .1 .0) in
       let source : i < c .sites = ltb-yes (from .0) in
-      take-set i m p (S .net .chan i m p) source site (eqb-no (from .1)) part (ok .chan i m p (omega (arith, ok .sites)) (omega (arith, ok .parts))) (t .1 .0)
+      take-set i m p (S .net .chan i m p) source site (eqb-no (from .1)) part (ok .chan i m p (omega (arith, ok .sites)) (omega (arith, ok .partitions))) (t .1 .0)
 
 pub step-lawful : (S : State) → LawfulState S → (e : Event) → LawfulAll (step S e .changes) S
 step-lawful S ok e = step-elim S e (λ o. LawfulAll (o .changes) S) (λ w. tt) (serve-lawful S ok e)

@@ -1,5 +1,5 @@
 -- A session's bytes stay well formed when a lawful session is put. In order: the bytes that are flags, a flag that is put, a put elsewhere, the marks,
--- the session. Marks beyond the page keep their bytes, which were flags before. Assumes nothing.
+-- the session. Marks beyond the page keep their bytes, which were flags before.
 use Prim.Native.Nat.{ℕ, suc, _+_, _≤_, _<_}
 use native.Mathlib.Decide.{ℕ-discrete}
 use native.Mathlib.Omega.{arith}

@@ -1,6 +1,6 @@
 -- Lawful values as facts. In order: tests, a time's bytes, vectors and what raises them, levels, records, messages, pages, sessions, and a state. For each kind
 -- the facts, how they follow from the test and give it back, and that the value fits its bytes. A vector's facts say more than the test: it has no
--- entry beyond the sites, at any number. Vectors that are read from bytes are so. Assumes nothing.
+-- entry beyond the sites, at any number. Vectors that are read from bytes are so.
 use Prim.Native.Nat.{ℕ, _^_, _≤_, _<_}
 use native.Mathlib.Omega.{arith}
 use mathlib.Core.Bool.{Bool, not, _&&_, _||_}
@@ -111,8 +111,8 @@ module _ (c : Setting) (x : Session) where
 
 pub record LawfulState (S : State) : Type 0 where
   pub sites : S .net .setting .sites ≤ 4
-  pub part : 0 < S .net .setting .parts
-  pub parts : S .net .setting .parts ≤ 4
+  pub partition : 0 < S .net .setting .partitions
+  pub partitions : S .net .setting .partitions ≤ 4
   pub session : (s : ℕ) → s < 16 → LawfulSession (S .net .setting) (S .session s)
   pub clock : (m p : ℕ) → m < 4 → p < 4 → S .net .clock m p < 2 ^ 48
   pub heard : (m p : ℕ) → m < 4 → p < 4 → LawfulVec (S .net .setting) (S .net .heard m p)

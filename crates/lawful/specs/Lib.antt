@@ -1,3 +1,3 @@
--- Document 01's paragraph "A table is well formed when": of values, and of a table's bytes.
+-- When a table is well formed (R20 to R28): of values, and of a table's bytes.
 pub mod Values
 pub mod WellFormed

@@ -1,5 +1,4 @@
--- What is lawful of the protocol's values, by "A table is well formed when". In order: the constants, a time, a vector, a record, a message, a page
--- and a session. Assumes nothing.
+-- What is lawful of the setup's constants (R20), a page (R22) and a session (R21). Times, vectors, records and messages are in crate record.
 use Prim.Native.Nat.{ℕ}
 use mathlib.Core.Bool.{Bool, not, _&&_, _||_}
 use mathlib.Core.List.{List, [], _∷_}
@@ -10,20 +9,20 @@ use Rattle.protocol.specs.State.{Mark, Page, Session}
 use Rattle.protocol.specs.Needs.{keysLawful, distinct}
 use Rattle.record.specs.Ranges.{vecLawful}
 
--- "site and partition numbers are 1 to 4"
+-- R20
 unfoldable pub settingLawful : Setting → Bool
-settingLawful c = (ltb 0 (c .sites) && leb (c .sites) 4) && (ltb 0 (c .parts) && leb (c .parts) 4)
+settingLawful c = (ltb 0 (c .sites) && leb (c .sites) 4) && (ltb 0 (c .partitions) && leb (c .partitions) 4)
 
 unfoldable pub keysOf : List Mark → List ℕ
 keysOf [] = []
 keysOf (m ∷ ms) = m .key ∷ keysOf ms
 
--- "an open page has 1 to 8 different keys, each 0 to 63"
+-- R21, R22: an open page has 1 to 8 different keys, each 0 to 63
 unfoldable pub pageLawful : Setting → Page → Bool
 pageLawful c g =
     leb (length (g .marks)) 8
     && ((not (g .isOpen) || (ltb 0 (length (g .marks)) && (keysLawful (keysOf (g .marks)) && distinct (keysOf (g .marks))))) && (vecLawful c (g .vec) && vecLawful c (g .gathered)))
 
--- "an open session's site exists"
+-- R21: an open session's site exists
 unfoldable pub sessionLawful : Setting → Session → Bool
 sessionLawful c x = (not (x .isOpen) || ltb (x .site) (c .sites)) && (vecLawful c (x .vec) && pageLawful c (x .page))

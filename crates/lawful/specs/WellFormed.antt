@@ -1,5 +1,5 @@
--- When a table's bytes are well formed: what they say is lawful, and what says it (flags, marks, kinds, a heartbeat's zeros) is too. Unused slots, ring
--- places and page keys, and all room, may hold any bytes; flags, marks, clocks and vectors are tested at every place. Assumes nothing.
+-- When a table's bytes are well formed (R20 to R28): every value is lawful, and so is every byte that encodes a choice: flags, marks, kinds, a heartbeat's zeros.
+-- Slots, ring places and page keys that are not in use, and spare bytes, may hold anything; flags, marks, clocks and vectors are tested at every place.
 use Prim.Native.Nat.{ℕ, _+_, _-_}
 use mathlib.Core.Bool.{Bool, cond, _&&_}
 use mathlib.Core.List.{List}
@@ -16,29 +16,29 @@ use Rattle.table.specs.Parts.{sessionOf, siteOf, nodeOf, channelOf}
 use Rattle.table.specs.Decode.{settingIn}
 use Rattle.lawful.specs.Values.{settingLawful, sessionLawful}
 
--- "flags and marks are 0 or 1"
+-- R21: flags and marks are 0 or 1
 unfoldable pub flagsAt : List ℕ → (at n : ℕ) → Bool
 flagsAt b at n = allBelow n (λ i. ltb (load 1 b (at + i)) 2)
 
 unfoldable pub sessionFormed : Setting → List ℕ → Bool
 sessionFormed c b = (ltb (load 1 b 0) 2 && (ltb (load 1 b 2) 2 && flagsAt b 16 8)) && sessionLawful c (sessionIn b)
 
--- "nodes and channels of absent sites or partitions hold no record or message"
+-- R24: the node of an absent site or partition holds no record
 unfoldable pub nodeFormed : Setting → (m p : ℕ) → List ℕ → Bool
 nodeFormed c m p n =
     (timeLawful (clockIn n) && vecLawful c (heardIn n))
-    && (leb (heldIn n) (cond (ltb m (c .sites) && ltb p (c .parts)) 32 0) && allBelow (heldIn n) (λ k. recordFormed c p n (slotAt k)))
+    && (leb (heldIn n) (cond (ltb m (c .sites) && ltb p (c .partitions)) 32 0) && allBelow (heldIn n) (λ k. recordFormed c p n (slotAt k)))
 
--- the channel to the place d: of the other sites those below sites - 1 exist
+-- R25: the channel to the place d; of the other sites those below sites - 1 exist
 unfoldable pub channelFormed : Setting → (i p d : ℕ) → List ℕ → Bool
 channelFormed c i p d b =
-    leb (waitIn b) (cond ((ltb i (c .sites) && ltb p (c .parts)) && ltb d (c .sites - 1)) 8 0)
+    leb (waitIn b) (cond ((ltb i (c .sites) && ltb p (c .partitions)) && ltb d (c .sites - 1)) 8 0)
     && allBelow (waitIn b) (λ k. messageFormed c i p b (ringAt (frontIn b) k))
 
 unfoldable pub siteFormed : Setting → (m : ℕ) → List ℕ → Bool
 siteFormed c m site = allBelow 4 (λ p. nodeFormed c m p (nodeOf site p) && allBelow 3 (λ d. channelFormed c m p d (channelOf site p d)))
 
--- the table is well formed; that it has 57,344 bytes is 23's
+-- the length is not tested here: a wrong one is refused with 23
 unfoldable pub wellFormed : List ℕ → Bool
 wellFormed t =
     let c = settingIn t in

@@ -1,4 +1,4 @@
-// A channel's 464 bytes: messages that are lawful, none where the channel is absent. In order: the messages, the channel. Assumes nothing.
+// A channel's 464 bytes: messages that are lawful, none where the channel is absent. In order: the messages, the channel.
 ghost use mathlib.Core.Path.{_≡_};
 ghost use Prim.Native.Nat.{_<_};
 ghost use lib.ListN.{length};
@@ -10,14 +10,22 @@ use crate::nodes;
 use record::formed;
 
 // The first `wait` messages from the place `front` on, round the ring.
-pub fn messages_formed(b: &[u8], sites: u8, parts: u8, i: u8, p: u8, front: u8, wait: u8) -> bool
-    requires { ⌜ (length (now b) ≡ 464) × (0 < parts) ⌝ }
-    ensures { λ r. ⌜ r ≡ allBelow wait (λ k. messageFormed (record { sites = sites; parts = parts }) i p (now (b .entry)) (ringAt front k)) ⌝ }
+pub fn messages_formed(
+    b: &[u8],
+    sites: u8,
+    partitions: u8,
+    i: u8,
+    p: u8,
+    front: u8,
+    wait: u8,
+) -> bool
+    requires { ⌜ (length (now b) ≡ 464) × (0 < partitions) ⌝ }
+    ensures { λ r. ⌜ r ≡ allBelow wait (λ k. messageFormed (record { sites = sites; partitions = partitions }) i p (now (b .entry)) (ringAt front k)) ⌝ }
 {
     let mut k = 0;
     while k < wait {
         let at = 16 + 56 * ((front as usize + k as usize) % 8);
-        if !formed::message_formed(b, at, sites, parts, i, p) {
+        if !formed::message_formed(b, at, sites, partitions, i, p) {
             return false;
         }
         k += 1;
@@ -26,17 +34,17 @@ pub fn messages_formed(b: &[u8], sites: u8, parts: u8, i: u8, p: u8, front: u8, 
 }
 
 // The channel from site i at partition p to the place d among the other sites.
-pub fn channel_formed(b: &[u8], sites: u8, parts: u8, i: u8, p: u8, d: u8) -> bool
-    requires { ⌜ (length (now b) ≡ 464) × (0 < parts) × (d < 3) ⌝ }
-    ensures { λ r. ⌜ r ≡ channelFormed (record { sites = sites; parts = parts }) i p d (now (b .entry)) ⌝ }
+pub fn channel_formed(b: &[u8], sites: u8, partitions: u8, i: u8, p: u8, d: u8) -> bool
+    requires { ⌜ (length (now b) ≡ 464) × (0 < partitions) × (d < 3) ⌝ }
+    ensures { λ r. ⌜ r ≡ channelFormed (record { sites = sites; partitions = partitions }) i p d (now (b .entry)) ⌝ }
 {
     let wait = parts::channels::waiting(b);
     if wait == 0 {
         return true;
     }
-    if nodes::most(((i < sites) & (p < parts)) & (d + 1 < sites), 8) < wait {
+    if nodes::most(((i < sites) & (p < partitions)) & (d + 1 < sites), 8) < wait {
         return false;
     }
     let front = codec::load_u8(b, 0);
-    messages_formed(b, sites, parts, i, p, front, wait)
+    messages_formed(b, sites, partitions, i, p, front, wait)
 }

@@ -16,15 +16,15 @@ pub mod sessions;
 pub mod sites;
 
 // "site and partition numbers are 1 to 4"
-pub fn setting_lawful(sites: u8, parts: u8) -> bool
-    ensures { λ r. ⌜ r ≡ settingLawful (record { sites = sites; parts = parts }) ⌝ }
+pub fn setting_lawful(sites: u8, partitions: u8) -> bool
+    ensures { λ r. ⌜ r ≡ settingLawful (record { sites = sites; partitions = partitions }) ⌝ }
 {
-    ((0 < sites) & (sites <= 4)) & ((0 < parts) & (parts <= 4))
+    ((0 < sites) & (sites <= 4)) & ((0 < partitions) & (partitions <= 4))
 }
 
 pub fn sessions_formed(t: &[u8], sites: u8) -> bool
     requires { ⌜ Long (now t) ⌝ }
-    ensures { λ r. ⌜ ((parts : ℕ) → r ≡ allBelow 16 (λ s. sessionFormed (record { sites = sites; parts = parts }) (sessionOf (now (t .entry)) s))) ⌝ }
+    ensures { λ r. ⌜ ((partitions : ℕ) → r ≡ allBelow 16 (λ s. sessionFormed (record { sites = sites; partitions = partitions }) (sessionOf (now (t .entry)) s))) ⌝ }
 {
     let mut s = 0;
     while s < 16 {
@@ -36,13 +36,13 @@ pub fn sessions_formed(t: &[u8], sites: u8) -> bool
     true
 }
 
-pub fn sites_formed(t: &[u8], sites: u8, parts: u8) -> bool
-    requires { ⌜ Long (now t) × (0 < parts) ⌝ }
-    ensures { λ r. ⌜ r ≡ allBelow 4 (λ m. siteFormed (record { sites = sites; parts = parts }) m (siteOf (now (t .entry)) m)) ⌝ }
+pub fn sites_formed(t: &[u8], sites: u8, partitions: u8) -> bool
+    requires { ⌜ Long (now t) × (0 < partitions) ⌝ }
+    ensures { λ r. ⌜ r ≡ allBelow 4 (λ m. siteFormed (record { sites = sites; partitions = partitions }) m (siteOf (now (t .entry)) m)) ⌝ }
 {
     let mut m = 0;
     while m < 4 {
-        if !sites::site_formed(places::site(t, m), sites, parts, m) {
+        if !sites::site_formed(places::site(t, m), sites, partitions, m) {
             return false;
         }
         m += 1;
@@ -56,12 +56,12 @@ pub fn well_formed(t: &[u8]) -> bool
     ensures { λ r. ⌜ r ≡ wellFormed (now (t .entry)) ⌝ }
 {
     let sites = codec::load_u8(t, 0);
-    let parts = codec::load_u8(t, 1);
-    if !setting_lawful(sites, parts) {
+    let partitions = codec::load_u8(t, 1);
+    if !setting_lawful(sites, partitions) {
         return false;
     }
     if !sessions_formed(t, sites) {
         return false;
     }
-    sites_formed(t, sites, parts)
+    sites_formed(t, sites, partitions)
 }

@@ -1,5 +1,5 @@
 // A node's 1,856 bytes: clock and vector within the limits, and records that are lawful, none where the node is absent. In order: how many there
-// may be, the records, the node. Assumes nothing.
+// may be, the records, the node.
 ghost use mathlib.Core.Path.{_≡_};
 ghost use mathlib.Core.Bool.{cond};
 ghost use Prim.Native.Nat.{_≤_, _<_};
@@ -19,13 +19,13 @@ pub fn most(exists: bool, n: u8) -> u8
 }
 
 // The first `held` records.
-pub fn records_formed(n: &[u8], sites: u8, parts: u8, p: u8, held: u8) -> bool
-    requires { ⌜ (length (now n) ≡ 1856) × (0 < parts) × (held ≤ 32) ⌝ }
-    ensures { λ r. ⌜ r ≡ allBelow held (λ k. recordFormed (record { sites = sites; parts = parts }) p (now (n .entry)) (slotAt k)) ⌝ }
+pub fn records_formed(n: &[u8], sites: u8, partitions: u8, p: u8, held: u8) -> bool
+    requires { ⌜ (length (now n) ≡ 1856) × (0 < partitions) × (held ≤ 32) ⌝ }
+    ensures { λ r. ⌜ r ≡ allBelow held (λ k. recordFormed (record { sites = sites; partitions = partitions }) p (now (n .entry)) (slotAt k)) ⌝ }
 {
     let mut k = 0;
     while k < held {
-        if !formed::record_formed(n, 64 + 56 * (k as usize), sites, parts, p) {
+        if !formed::record_formed(n, 64 + 56 * (k as usize), sites, partitions, p) {
             return false;
         }
         k += 1;
@@ -34,12 +34,12 @@ pub fn records_formed(n: &[u8], sites: u8, parts: u8, p: u8, held: u8) -> bool
 }
 
 // The node of site m and partition p.
-pub fn node_formed(n: &[u8], sites: u8, parts: u8, m: u8, p: u8) -> bool
-    requires { ⌜ (length (now n) ≡ 1856) × (0 < parts) ⌝ }
-    ensures { λ r. ⌜ r ≡ nodeFormed (record { sites = sites; parts = parts }) m p (now (n .entry)) ⌝ }
+pub fn node_formed(n: &[u8], sites: u8, partitions: u8, m: u8, p: u8) -> bool
+    requires { ⌜ (length (now n) ≡ 1856) × (0 < partitions) ⌝ }
+    ensures { λ r. ⌜ r ≡ nodeFormed (record { sites = sites; partitions = partitions }) m p (now (n .entry)) ⌝ }
 {
     let held = parts::nodes::held(n);
-    if most((m < sites) & (p < parts), 32) < held {
+    if most((m < sites) & (p < partitions), 32) < held {
         return false;
     }
     if !times::time_lawful(parts::nodes::clock(n)) {
@@ -48,5 +48,5 @@ pub fn node_formed(n: &[u8], sites: u8, parts: u8, m: u8, p: u8) -> bool
     if !times::vector_formed(n, 8, sites) {
         return false;
     }
-    records_formed(n, sites, parts, p, held)
+    records_formed(n, sites, partitions, p, held)
 }

@@ -1,5 +1,4 @@
-// "an open page has 1 to 8 different keys, each 0 to 63". In order: whether a key is one of some, the keys that some
-// bytes are, the keys of a session's page. Assumes nothing.
+// R22. In order: a key among n bytes; n bytes as different keys in range; the keys of a session's page.
 ghost use mathlib.Core.Path.{_≡_};
 ghost use mathlib.Core.Bool.{not, _&&_, _||_};
 ghost use Prim.Native.Nat.{_+_, _≤_};

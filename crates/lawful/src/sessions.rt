@@ -1,4 +1,4 @@
-// A session's 128 bytes: flags and marks, its site, its vector, its page. In order: flags, the page, the site, the session. Assumes nothing.
+// A session's 128 bytes: flags and marks, its site, its vector, its page. In order: flags, the page, the site, the session.
 ghost use mathlib.Core.Path.{_≡_};
 ghost use mathlib.Core.Bool.{not, _||_};
 ghost use Prim.Native.Nat.{ℕ, _+_, _≤_};
@@ -29,7 +29,7 @@ pub fn flags_formed(b: &[u8], at: usize, n: usize) -> bool
 // The keys of a page that is not open are not looked at.
 pub fn page_lawful(b: &[u8], sites: u8) -> bool
     requires { ⌜ length (now b) ≡ 128 ⌝ }
-    ensures { λ r. ⌜ ((parts : ℕ) → r ≡ pageLawful (record { sites = sites; parts = parts }) (sessionIn (now (b .entry)) .page)) ⌝ }
+    ensures { λ r. ⌜ ((partitions : ℕ) → r ≡ pageLawful (record { sites = sites; partitions = partitions }) (sessionIn (now (b .entry)) .page)) ⌝ }
 {
     let count = codec::load_u8(b, 3);
     if 8 < count {
@@ -58,7 +58,7 @@ pub fn site_lawful(b: &[u8], sites: u8) -> bool
 // Single bytes first, then the vector and the page.
 pub fn session_formed(b: &[u8], sites: u8) -> bool
     requires { ⌜ length (now b) ≡ 128 ⌝ }
-    ensures { λ r. ⌜ ((parts : ℕ) → r ≡ sessionFormed (record { sites = sites; parts = parts }) (now (b .entry))) ⌝ }
+    ensures { λ r. ⌜ ((partitions : ℕ) → r ≡ sessionFormed (record { sites = sites; partitions = partitions }) (now (b .entry))) ⌝ }
 {
     if 2 <= codec::load_u8(b, 0) {
         return false;

@@ -10,16 +10,16 @@ use crate::channels;
 use crate::nodes;
 use table::places;
 
-pub fn channels_formed(site: &[u8], sites: u8, parts: u8, m: u8, p: u8) -> bool
-    requires { ⌜ (length (now site) ≡ 13056) × (0 < parts) × (p < 4) ⌝ }
-    ensures { λ r. ⌜ r ≡ allBelow 3 (λ d. channelFormed (record { sites = sites; parts = parts }) m p d (channelOf (now (site .entry)) p d)) ⌝ }
+pub fn channels_formed(site: &[u8], sites: u8, partitions: u8, m: u8, p: u8) -> bool
+    requires { ⌜ (length (now site) ≡ 13056) × (0 < partitions) × (p < 4) ⌝ }
+    ensures { λ r. ⌜ r ≡ allBelow 3 (λ d. channelFormed (record { sites = sites; partitions = partitions }) m p d (channelOf (now (site .entry)) p d)) ⌝ }
 {
     let mut d = 0;
     while d < 3 {
         if !channels::channel_formed(
             places::channel_of(site, p, d as usize),
             sites,
-            parts,
+            partitions,
             m,
             p,
             d,
@@ -32,16 +32,16 @@ pub fn channels_formed(site: &[u8], sites: u8, parts: u8, m: u8, p: u8) -> bool
 }
 
 // Site m.
-pub fn site_formed(site: &[u8], sites: u8, parts: u8, m: u8) -> bool
-    requires { ⌜ (length (now site) ≡ 13056) × (0 < parts) ⌝ }
-    ensures { λ r. ⌜ r ≡ siteFormed (record { sites = sites; parts = parts }) m (now (site .entry)) ⌝ }
+pub fn site_formed(site: &[u8], sites: u8, partitions: u8, m: u8) -> bool
+    requires { ⌜ (length (now site) ≡ 13056) × (0 < partitions) ⌝ }
+    ensures { λ r. ⌜ r ≡ siteFormed (record { sites = sites; partitions = partitions }) m (now (site .entry)) ⌝ }
 {
     let mut p = 0;
     while p < 4 {
-        if !nodes::node_formed(places::node_of(site, p), sites, parts, m, p) {
+        if !nodes::node_formed(places::node_of(site, p), sites, partitions, m, p) {
             return false;
         }
-        if !channels_formed(site, sites, parts, m, p) {
+        if !channels_formed(site, sites, partitions, m, p) {
             return false;
         }
         p += 1;

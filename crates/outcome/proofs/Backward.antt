@@ -1,5 +1,5 @@
 -- Lists of a function's values as a loop goes over them from the last to the first: none, one more in front, all. Then what is done to each mark of
--- such a list. Assumes nothing.
+-- such a list.
 use Prim.Native.Nat.{ℕ, zero, suc, _+_, _-_, _≤_, _<_}
 use native.Mathlib.Nat.{add-zero}
 use native.Mathlib.Omega.{arith}

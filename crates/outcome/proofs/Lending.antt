@@ -1,5 +1,5 @@
 -- What the two walks of the raising share, `raise` that a session is lent to and `lent` that lends it. In order: machine values; what is passed beside
--- the session, which whoever knows its ranges owns; what is ensured; a session in a local's cell as what a `&mut` refers to, and back. Assumes nothing.
+-- the session, which whoever knows its ranges owns; what is ensured; a session in a local's cell as what a `&mut` refers to, and back.
 use Prim.Native.Nat.{ℕ, _<_, _^_}
 use mathlib.Core.Path.{_≡_, refl}
 use mathlib.Core.List.{[], _∷_, List}

@@ -1,4 +1,4 @@
--- The keys and marks of a page as the code holds them, in two arrays of which the first n places are in use. Assumes nothing.
+-- The keys and marks of a page as the code holds them, in two arrays of which the first n places are in use.
 use Prim.Native.Nat.{ℕ, _+_, _-_}
 use mathlib.Core.Bool.{Bool, false}
 use mathlib.Core.List.{List}

@@ -1,5 +1,5 @@
 // The keys of a page and their marks, in two arrays of which the first `count` places are in use. In order: tests of the keys that a page begins
-// with, tests of the marks, and a key that is read. Each test goes from the last place to the first, as its definition has it. Assumes nothing.
+// with, tests of the marks, and a key that is read. Each test goes from the last place to the first, as its definition has it.
 ghost use mathlib.Core.Path.{_≡_};
 ghost use mathlib.Core.List.{List};
 ghost use Prim.Native.Nat.{ℕ, _≤_};

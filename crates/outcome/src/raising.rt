@@ -1,5 +1,5 @@
-// "A shown record raises the session's vector .. The session's record is lent to that raising and updated there." In order: the session by value, the
-// raising that it is lent to, its owner, who lends it, and what a read leaves of it. GET and END raise sessions here and nowhere else. Assumes nothing.
+// A record that is shown raises the session's vector (R37); the session is lent to that raising and updated there. In order: `raised`, by value; `raise`, through
+// `&mut`; `lent`, which owns the session and calls `raise`; `raised_by`, for GET. GET and END raise sessions here and nowhere else.
 ghost use mathlib.Core.Path.{_≡_};
 ghost use Prim.Native.Nat.{_<_};
 ghost use Rattle.vector.specs.Vec.{raised};

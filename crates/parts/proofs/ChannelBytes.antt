@@ -1,4 +1,4 @@
--- The laws of a channel's bytes: a message that is pushed is the queue's last, and what is popped is its first. Assumes nothing.
+-- The laws of a channel's bytes: a message that is pushed is the queue's last, and what is popped is its first.
 use Prim.Native.Nat.{ℕ, _+_, _-_, _%_, _≤_, _<_}
 use native.Mathlib.Omega.{arith}
 use mathlib.Core.Path.{_≡_, ap, _∙_}

@@ -6,7 +6,7 @@ use lib.ListN.{length}
 use Rattle.codec.specs.Le.{load, put}
 use Rattle.codec.proofs.Le.{length-put}
 use Rattle.vector.proofs.Entries.{length-putVec}
-use Rattle.protocol.specs.Record.{Msg, Update, Beat, stampIn}
+use Rattle.protocol.specs.Record.{Msg, Update, Heartbeat, stampIn}
 use Rattle.protocol.specs.State.{Mark, Session}
 use Rattle.record.specs.RecordBytes.{putRecord, putMessage}
 use Rattle.record.proofs.Lengths.{length-putMessage, length-putRecord}
@@ -23,7 +23,7 @@ length-clockSet t n = length-put 8 n 0 t
 pub length-stored : (x : Msg) (n : List ℕ) → length (stored x n) ≡ length n
 unfolding stored
 length-stored (Update r) n = length-put 1 (putRecord n (slotAt (heldIn n)) r) 40 (heldIn n + 1) ∙ length-putRecord n (slotAt (heldIn n)) r
-length-stored (Beat t) n = refl
+length-stored (Heartbeat t) n = refl
 
 pub length-published : (m : ℕ) (x : Msg) (n : List ℕ) → length (published m x n) ≡ length n
 unfolding published

@@ -1,5 +1,5 @@
 -- The keys and marks of a page, in two arrays. In order: an array that is filled from the front; the marks put one
--- after the other, as the code counts; the marks that are loaded. Assumes nothing.
+-- after the other, as the code counts; the marks that are loaded.
 use mathlib.Core.Bool.{Bool, false}
 use mathlib.Core.Path.{_≡_, refl, ap, _∙_}
 use mathlib.Core.List.{List}

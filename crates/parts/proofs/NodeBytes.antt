@@ -1,5 +1,5 @@
 -- The laws of a node's bytes: its clock, what it has heard, and its store, after each change. In order: a put before the records, an update stored
--- behind the others, then the three changes. Assumes nothing.
+-- behind the others, then the three changes.
 use Prim.Native.Nat.{ℕ, _+_, _*_, max, _≤_, _<_}
 use native.Mathlib.Decide.{ℕ-discrete}
 use native.Mathlib.Omega.{arith}
@@ -15,7 +15,7 @@ use Rattle.codec.proofs.Tabulate.{tab-ext, tab-more}
 use Rattle.vector.specs.Vec.{width, withEntry, atLeast}
 use Rattle.vector.specs.Entries.{loadVec}
 use Rattle.vector.proofs.Entries.{with-later, loadVec-below}
-use Rattle.protocol.specs.Record.{Rec, Msg, Update, Beat, stampIn, recordsIn}
+use Rattle.protocol.specs.Record.{Rec, Msg, Update, Heartbeat, stampIn, recordsIn}
 use Rattle.record.specs.RecordBytes.{recordAt, putRecord}
 use Rattle.record.specs.Fits.{FitsRec, FitsMsg}
 use Rattle.record.proofs.Lengths.{length-putRecord}
@@ -40,7 +40,7 @@ module _ (n : List ℕ) (w at v : ℕ) (h : at + w ≤ 40) where
 
   room-before : (x : Msg) → Room x n → Room x (put w n at v)
   room-before (Update r) room = omega (arith, held-before)
-  room-before (Beat t) room = tt
+  room-before (Heartbeat t) room = tt
 
 module _ (n : List ℕ) (m v : ℕ) (l : length n ≡ 1856) (h : m < 4) where
   clock-entry : clockIn (put 8 n (8 + 8 * m) v) ≡ clockIn n
@@ -62,7 +62,7 @@ unfolding stored
 load-stored-other (Update r) n w j h =
     load-put-other w 1 (putRecord n (slotAt (heldIn n)) r) 40 (heldIn n + 1) j (λ k a b c d. omega arith)
     ∙ load-putRecord-other n (slotAt (heldIn n)) r w j (λ k a b c d. omega arith)
-load-stored-other (Beat t) n w j h = refl
+load-stored-other (Heartbeat t) n w j h = refl
 
 clock-stored : (x : Msg) (n : List ℕ) → clockIn (stored x n) ≡ clockIn n
 unfolding clockIn
@@ -99,7 +99,7 @@ unfolding storeIn recordsIn
 store-stored (Update r) n l small room =
     rw (held-update r n l small room)
     (tab-more (heldIn n) (λ k. recordAt n (slotAt k)) (λ k. recordAt (stored (Update r) n) (slotAt k)) r (old-update r n l small room) (new-update r n l small room))
-store-stored (Beat t) n l small room = unfold stored in sym (append-nil (storeIn n))
+store-stored (Heartbeat t) n l small room = unfold stored in sym (append-nil (storeIn n))
 
 -- ---- the changes
 
@@ -118,7 +118,7 @@ store-clockSet t n = store-before n 8 0 t (omega arith)
 stamp-fits : (x : Msg) → FitsMsg x → stampIn x < span 8
 unfolding stampIn
 stamp-fits (Update r) h = h .stamp
-stamp-fits (Beat t) h = h
+stamp-fits (Heartbeat t) h = h
 
 entry-heard : (n : List ℕ) (i : ℕ) → i < 4 → heardIn n i ≡ load 8 n (8 + 8 * i)
 unfolding heardIn width

@@ -1,4 +1,4 @@
--- The laws of a session's bytes: what is put is what stands in them. In order: the marks, the bytes before them, the vectors, all. Assumes nothing.
+-- The laws of a session's bytes: what is put is what stands in them. In order: the marks, the bytes before them, the vectors, all.
 use Prim.Native.Nat.{ℕ, suc, _+_, _*_, _≤_, _<_}
 use native.Mathlib.Nat.{add-zero, zero-add}
 use native.Mathlib.Omega.{arith}

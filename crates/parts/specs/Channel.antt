@@ -1,4 +1,4 @@
--- A channel's 464 bytes, a ring of 8: 0 the front's place, 1 how many messages wait, 16 + 56 k the message in place k. Assumes nothing.
+-- A channel's 464 bytes, a ring of 8: 0 the front's place, 1 how many messages wait, 16 + 56 k the message in place k.
 use Prim.Native.Nat.{ℕ, _+_, _*_, _-_, _%_}
 use mathlib.Core.List.{List}
 use Rattle.codec.specs.Le.{load, put}

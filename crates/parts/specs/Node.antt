@@ -1,12 +1,11 @@
 -- A node's 1,856 bytes: 0–7 clock, 8–39 heard, 40 how many records it holds, 64 + 56 k its record k. What stands in them, and what changes.
--- Assumes nothing.
 use Prim.Native.Nat.{ℕ, _+_, _*_, max}
 use mathlib.Core.List.{List}
 use Rattle.codec.specs.Le.{load, put}
 use Rattle.codec.specs.Tabulate.{tabulate}
 use Rattle.vector.specs.Vec.{Vec}
 use Rattle.vector.specs.Entries.{loadVec}
-use Rattle.protocol.specs.Record.{Rec, Msg, Update, Beat, stampIn}
+use Rattle.protocol.specs.Record.{Rec, Msg, Update, Heartbeat, stampIn}
 use Rattle.record.specs.RecordBytes.{recordAt, putRecord}
 
 unfoldable pub clockIn : List ℕ → ℕ
@@ -33,7 +32,7 @@ clockSet t n = put 8 n 0 t
 -- an update is stored behind the others
 unfoldable pub stored : Msg → List ℕ → List ℕ
 stored (Update r) n = put 1 (putRecord n (slotAt (heldIn n)) r) 40 (heldIn n + 1)
-stored (Beat t) n = n
+stored (Heartbeat t) n = n
 
 -- its own message: entry m becomes the stamp
 unfoldable pub published : (m : ℕ) → Msg → List ℕ → List ℕ

@@ -1,5 +1,5 @@
 -- A session's 128 bytes: 0 open, 1 site, 2 page open, 3 page keys in use, 8–15 keys, 16–23 marks, 32–63 its vector, 64–95 the page's vector,
--- 96–127 what the page has gathered. What stands in them, and how they are written. Assumes nothing.
+-- 96–127 what the page has gathered. What stands in them, and how they are written.
 use Prim.Native.Nat.{ℕ, suc, _+_}
 use mathlib.Core.Bool.{Bool, cond}
 use mathlib.Core.List.{List, [], _∷_}

@@ -1,5 +1,5 @@
 // A channel's 464 bytes, a ring of 8 places: the messages that wait stand behind the front, one after the other. In order: a place of the ring,
-// reading, and the two changes. Assumes nothing.
+// reading, and the two changes.
 ghost use mathlib.Core.Path.{_≡_};
 ghost use Prim.Native.Nat.{_+_, _≤_, _<_};
 ghost use lib.ListN.{length};

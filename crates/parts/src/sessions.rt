@@ -1,5 +1,5 @@
 // A session's 128 bytes. In order: reading, where all eight keys and marks are read and those below the count are in use; and writing, which leaves
-// the keys and marks that are not in use as they were. Assumes nothing.
+// the keys and marks that are not in use as they were.
 ghost use mathlib.Core.Path.{_≡_};
 ghost use mathlib.Core.Bool.{false};
 ghost use Prim.Native.Nat.{ℕ, _+_, _≤_, _<_};
@@ -90,7 +90,7 @@ fn store_marks(b: &mut [u8], x: Session)
     }
 }
 
-// The four bytes that the vectors and the marks stand behind.
+// Bytes 0 to 3: open, site, page open, count.
 fn store_head(b: &mut [u8], x: Session)
     requires { ⌜ length (now b) ≡ 128 ⌝ }
     ensures { λ _. ⌜ now (b .exit) ≡ put 1 (put 1 (put 1 (put 1 (now (b .entry)) 0 (flag (x .open))) 1 (x .site)) 2 (flag (x .paged))) 3 (x .count) ⌝ }

@@ -1,10 +1,10 @@
--- Demand 3, read off the invariant: of a GET, and of a page as far as it has come. Assumes nothing.
+-- Demand 3, read off the invariant: of a GET, and of a page as far as it has come.
 use Prim.Native.Nat.{ℕ}
 use mathlib.Core.Path.{_≡_, sym, ap, subst, _∙_}
 use mathlib.Core.Bool.{Bool, true, false, not}
 use mathlib.Core.List.{List, [], List·Memᴰ·not-nil}
 use lib.Dec.{T}
-use Rattle.protocol.specs.Record.{Setting, partOf, Id, Rec, newest, ofKey}
+use Rattle.protocol.specs.Record.{Setting, partitionOf, Id, Rec, newest, ofKey}
 use Rattle.protocol.specs.State.{Session, State, setup}
 use Rattle.protocol.specs.Event.{GET, Answer, Refusal, Refused, shown}
 use Rattle.protocol.specs.Needs.{needs}
@@ -38,7 +38,7 @@ unfolding serve needs
 inv-get S h J s k = step-elim S (GET s k) (λ o. GetCausal (S .net .setting) h s k (o .says)) (λ w. refused-get (S .net .setting) h s k w)
     (λ r t. let N = S .net in
     let x = S .session s in
-    let p = partOf (N .setting) k in
+    let p = partitionOf (N .setting) k in
     let o = newest (N .setting) (ofKey k) (N .store (x .site) p) in
     record {
       genuine = genuine-is (h .writes) (J .all) (J .told) k (shown o) (search-shows N (J .all) (J .net) k (ofKey k) (λ r u. u) (x .site) p o (newest-is (N .setting) (ofKey k) (N .store (x .site) p)));

@@ -1,4 +1,4 @@
--- Conservation: each event keeps the balance of each channel, and so does any list of events. Assumes nothing.
+-- Conservation: each event keeps the balance of each channel, and so does any list of events.
 use Prim.Native.Nat.{ℕ, _+_, _<_}
 use native.Mathlib.Omega.{arith}
 use mathlib.Core.Path.{_≡_, refl, sym, _∙_}
@@ -8,7 +8,7 @@ use mathlib.Core.List.{List, [], _∷_, _++_, tail}
 use lib.Dec.{T, ltb, eqb, lt→ltb}
 use mir.Facts.{and-yes, eqb-yes}
 use Rattle.codec.proofs.Tests.{cond-elim}
-use Rattle.protocol.specs.Record.{partOf, Rec, Msg, Update, Beat}
+use Rattle.protocol.specs.Record.{partitionOf, Rec, Msg, Update, Heartbeat}
 use Rattle.protocol.specs.State.{Net, State, setup}
 use Rattle.protocol.specs.Event.{Event, OPEN, CLOSE, CLOCK, GET, PUT, BEGIN, READ, END, BEAT, DELIVER, Answer, Refusal, Refused}
 use Rattle.protocol.specs.View.{view}
@@ -29,18 +29,18 @@ waiting-update : (l : List Msg) (r : Rec) → waiting (l ++ (Update r ∷ [])) �
 unfolding waiting
 waiting-update [] r = refl
 waiting-update (Update q ∷ l) r = let k = waiting-update l r in omega arith
-waiting-update (Beat t ∷ l) r = waiting-update l r
+waiting-update (Heartbeat t ∷ l) r = waiting-update l r
 
-waiting-beat : (l : List Msg) (t : ℕ) → waiting (l ++ (Beat t ∷ [])) ≡ waiting l
+waiting-beat : (l : List Msg) (t : ℕ) → waiting (l ++ (Heartbeat t ∷ [])) ≡ waiting l
 unfolding waiting
 waiting-beat [] t = refl
 waiting-beat (Update q ∷ l) t = let k = waiting-beat l t in omega arith
-waiting-beat (Beat u ∷ l) t = waiting-beat l t
+waiting-beat (Heartbeat u ∷ l) t = waiting-beat l t
 
 waiting-front : (x : Msg) (l : List Msg) → waiting l + cond (frontUpdates (x ∷ l)) 1 0 ≡ waiting (x ∷ l)
 unfolding waiting frontUpdates
 waiting-front (Update r) l = omega arith
-waiting-front (Beat t) l = omega arith
+waiting-front (Heartbeat t) l = omega arith
 
 -- ---- one event
 
@@ -52,7 +52,7 @@ Balance S i m p e o = waiting (applyAll (o .changes) S .net .chan i m p) + one (
 
 module _ (i m p : ℕ) (apart : i ≢ m) where
   put-balance : (N : Net) (r : Rec) → m < N .setting .sites →
-      waiting (publish N (r .id .source) (partOf (N .setting) (r .id .key)) (Update r) .chan i m p) + 0 ≡ waiting (N .chan i m p) + cond (at (r .id .source) (partOf (N .setting) (r .id .key)) i p) 1 0
+      waiting (publish N (r .id .source) (partitionOf (N .setting) (r .id .key)) (Update r) .chan i m p) + 0 ≡ waiting (N .chan i m p) + cond (at (r .id .source) (partitionOf (N .setting) (r .id .key)) i p) 1 0
   unfolding publish
   put-balance N r l = go (at j q i p) (ltb m (N .setting .sites)) (eqb m j) (lt→ltb m (N .setting .sites) l)
       (λ t u. let e : m ≡ j = eqb-yes u in apart (at-yes j q i p t .0 ∙ sym e))
@@ -61,7 +61,7 @@ module _ (i m p : ℕ) (apart : i ≢ m) where
       j = r .id .source
 
       q : ℕ
-      q = partOf (N .setting) (r .id .key)
+      q = partitionOf (N .setting) (r .id .key)
 
       go : (a b c : Bool) → T b → (T a → T c → ⊥) →
           waiting (cond (a && (b && not c)) (N .chan i m p ++ (Update r ∷ [])) (N .chan i m p)) + 0 ≡ waiting (N .chan i m p) + cond a 1 0
@@ -70,7 +70,7 @@ module _ (i m p : ℕ) (apart : i ≢ m) where
       go true true false h k = let z = waiting-update (N .chan i m p) r in omega arith
       go true false c h k = absurd h
 
-  beat-balance : (N : Net) (j q t : ℕ) → waiting (publish N j q (Beat t) .chan i m p) ≡ waiting (N .chan i m p)
+  beat-balance : (N : Net) (j q t : ℕ) → waiting (publish N j q (Heartbeat t) .chan i m p) ≡ waiting (N .chan i m p)
   unfolding publish
   beat-balance N j q t =
       cond-elim (λ l. waiting l ≡ waiting (N .chan i m p)) (at j q i p && (ltb m (N .setting .sites) && not (eqb m j))) (λ u. waiting-beat (N .chan i m p) t) (λ u. refl)
@@ -99,7 +99,7 @@ module _ (i m p : ℕ) (apart : i ≢ m) where
   serve-balance S (CLOSE s) l = refl
   serve-balance S (CLOCK j q t) l = refl
   serve-balance S (GET s k) l = refl
-  serve-balance S (PUT s k q v) l = put-balance (S .net) (written (S .session s) k q v (S .net .clock (S .session s .site) (partOf (S .net .setting) k))) l
+  serve-balance S (PUT s k q v) l = put-balance (S .net) (written (S .session s) k q v (S .net .clock (S .session s .site) (partitionOf (S .net .setting) k))) l
   serve-balance S (BEGIN s q ks) l = refl
   serve-balance S (READ s k) l = refl
   serve-balance S (END s) l = refl

@@ -13,7 +13,7 @@ use lib.ListN.{length}
 use mir.Facts.{ltb-yes}
 use Rattle.codec.specs.Below.{allBelow}
 use Rattle.vector.specs.Vec.{zeros}
-use Rattle.protocol.specs.Record.{Setting, partOf, Rec, Msg}
+use Rattle.protocol.specs.Record.{Setting, partitionOf, Rec, Msg}
 use Rattle.protocol.specs.State.{Net, Session, State, closed}
 use Rattle.protocol.specs.Event.{Event, OPEN, CLOSE, CLOCK, GET, PUT, BEGIN, READ, END, BEAT, DELIVER, Answer, Done, Stamped, Value, Nothing, Refusal, Refused, shown}
 use Rattle.protocol.specs.View.{Place, ofSession, atSite, onChannel, View, look, viewAt, view, place}
@@ -31,10 +31,10 @@ abbrev within : View → View
 within v = record {
   setting = v .setting;
   session = v .session;
-  clock = λ p. v .clock (partOf (v .setting) p);
-  heard = λ p. v .heard (partOf (v .setting) p);
-  store = λ p. v .store (partOf (v .setting) p);
-  sent = λ p j. cond (ltb j (v .setting .sites)) (v .sent (partOf (v .setting) p) j) 0;
+  clock = λ p. v .clock (partitionOf (v .setting) p);
+  heard = λ p. v .heard (partitionOf (v .setting) p);
+  store = λ p. v .store (partitionOf (v .setting) p);
+  sent = λ p j. cond (ltb j (v .setting .sites)) (v .sent (partitionOf (v .setting) p) j) 0;
   front = v .front;
 }
 
@@ -42,17 +42,17 @@ within v = record {
 abbrev alone : Setting → Session → View
 alone c x = record { setting = c; session = x; clock = λ p. 0; heard = λ p. zeros; store = λ p. []; sent = λ p j. 0; front = [] }
 
-part-is : (c : Setting) (k : ℕ) → IsPart c (partOf c k)
-unfolding partOf
+part-is : (c : Setting) (k : ℕ) → IsPart c (partitionOf c k)
+unfolding partitionOf
 part-is c k h = mod-lt k h
 
 -- the partition of a key, and one that an event names
-part-key : (c : Setting) (k : ℕ) → partOf c (partOf c k) ≡ partOf c k
-unfolding partOf
-part-key c k = mod-mod k (c .parts)
+part-key : (c : Setting) (k : ℕ) → partitionOf c (partitionOf c k) ≡ partitionOf c k
+unfolding partitionOf
+part-key c k = mod-mod k (c .partitions)
 
-part-named : (c : Setting) (p : ℕ) → T (ltb p (c .parts)) → partOf c p ≡ p
-unfolding partOf
+part-named : (c : Setting) (p : ℕ) → T (ltb p (c .partitions)) → partitionOf c p ≡ p
+unfolding partitionOf
 part-named c p t = mod-eq-of-lt (ltb-yes t)
 
 all-same : (n : ℕ) (f g : ℕ → Bool) → ((i : ℕ) → i < n → f i ≡ g i) → allBelow n f ≡ allBelow n g
@@ -64,7 +64,7 @@ module _ (v : View) where
   abbrev c : Setting
   c = v .setting
 
-  send-within : (m p : ℕ) → partOf c p ≡ p → sendRoom v m p ≡ sendRoom (within v) m p
+  send-within : (m p : ℕ) → partitionOf c p ≡ p → sendRoom v m p ≡ sendRoom (within v) m p
   unfolding sendRoom
   send-within m p e = all-same (c .sites) _ _ (λ j l. rw (e, lt-ltb j (c .sites) l))
 
@@ -74,7 +74,7 @@ module _ (v : View) where
   judged-within (CLOSE s) r = refl
   judged-within (CLOCK m p t) r = rw (within, part-named c p (r .1 .0))
   judged-within (GET s k) r = rw (within, part-key c k)
-  judged-within (PUT s k q l) r = rw (← send-within (v .session .site) (partOf c k) (part-key c k), within, part-key c k)
+  judged-within (PUT s k q l) r = rw (← send-within (v .session .site) (partitionOf c k) (part-key c k), within, part-key c k)
   judged-within (BEGIN s p ks) r = rw (within, part-named c p (r .0))
   judged-within (READ s k) r = rw (within, part-key c k)
   judged-within (END s) r = refl
@@ -123,7 +123,7 @@ step-sees S e = go (place e) refl
 
 module _ (N M : Net) (m : ℕ) (a : SiteAlike N M m) where
   abbrev p′ : ℕ → ℕ
-  p′ p = partOf (N .setting) p
+  p′ p = partitionOf (N .setting) p
 
   sent-alike : (p j : ℕ) (b : Bool) → (T b → j < N .setting .sites) → cond b (length (N .chan m j (p′ p))) 0 ≡ cond b (length (M .chan m j (p′ p))) 0
   sent-alike p j true h = a .sent (p′ p) j (part-is (N .setting) p) (h tt)
@@ -133,10 +133,10 @@ module _ (N M : Net) (m : ℕ) (a : SiteAlike N M m) where
   within-alike x l = λ i. record {
     setting = a .setting i;
     session = x;
-    clock = λ p. (a .clock (p′ p) (part-is (N .setting) p) ∙ ap (λ d. M .clock m (partOf d p)) (a .setting)) i;
-    heard = λ p j. (a .heard (p′ p) j (part-is (N .setting) p) ∙ ap (λ d. M .heard m (partOf d p) j) (a .setting)) i;
-    store = λ p. (a .store (p′ p) (part-is (N .setting) p) ∙ ap (λ d. M .store m (partOf d p)) (a .setting)) i;
-    sent = λ p j. (sent-alike p j (ltb j (N .setting .sites)) (λ t. ltb-yes t) ∙ ap (λ d. cond (ltb j (d .sites)) (length (M .chan m j (partOf d p))) 0) (a .setting)) i;
+    clock = λ p. (a .clock (p′ p) (part-is (N .setting) p) ∙ ap (λ d. M .clock m (partitionOf d p)) (a .setting)) i;
+    heard = λ p j. (a .heard (p′ p) j (part-is (N .setting) p) ∙ ap (λ d. M .heard m (partitionOf d p) j) (a .setting)) i;
+    store = λ p. (a .store (p′ p) (part-is (N .setting) p) ∙ ap (λ d. M .store m (partitionOf d p)) (a .setting)) i;
+    sent = λ p j. (sent-alike p j (ltb j (N .setting .sites)) (λ t. ltb-yes t) ∙ ap (λ d. cond (ltb j (d .sites)) (length (M .chan m j (partitionOf d p))) 0) (a .setting)) i;
     front = l;
   }
 

@@ -1,5 +1,5 @@
 -- What every step keeps. In order: a channel's stamps go up; the network; what a vector answers for; a session and its page; the whole; and what
--- any step of the network leaves true (`Later`). W is the list of all records ever written: it is in no state. Assumes nothing.
+-- any step of the network leaves true (`Later`). W is the list of all records ever written: it is in no state.
 use Prim.Native.Nat.{ℕ, _≤_, _<_}
 use native.Mathlib.Omega.{arith}
 use mathlib.Core.Path.{_≡_, ap}
@@ -9,7 +9,7 @@ use mathlib.Core.List.{List, [], _∷_, _++_, List·Memᴰ·cases-cons, List·Me
 use lib.Dec.{T}
 use Rattle.vector.specs.Vec.{Vec, width}
 use Rattle.vector.proofs.Vec.{LeV}
-use Rattle.protocol.specs.Record.{partOf, Id, Rec, Msg, Update, stampIn}
+use Rattle.protocol.specs.Record.{partitionOf, Id, Rec, Msg, Update, stampIn}
 use Rattle.protocol.specs.State.{Net, Session, State}
 use Rattle.protocol.specs.Event.{Answer, qualityOf, levelOf}
 use Rattle.protocol.specs.Past.{_∈_, Write, Entry, Story, History, shownIn}
@@ -55,7 +55,7 @@ ascending-still (x ∷ l) t u h = let k = ascending-le l (stampIn x) t (h .1) in
 
 -- the partition of a record's key
 abbrev pub home : Net → Rec → ℕ
-home N r = partOf (N .setting) (r .id .key)
+home N r = partitionOf (N .setting) (r .id .key)
 
 -- r is stored at site m, or on its way there
 unfoldable pub Bound : Net → ℕ → Rec → Type 0
@@ -105,7 +105,7 @@ Shows W k a = (y : Id) → y ∈ shownIn k a → (r : Rec) × (r ∈ W) × (r .i
 -- a served READ: the nodes that write its key are past the page's vector, what is up to the page's vector is covered, and what is shown
 -- carries at most the page's vector and is gathered
 pub record EntryInv (N : Net) (W : List Rec) (x : Session) (e : Entry) : Type 0 where
-  pub past : (i : ℕ) → i < width → x .page .vec i ≤ N .heard i (partOf (N .setting) (e .key)) i
+  pub past : (i : ℕ) → i < width → x .page .vec i ≤ N .heard i (partitionOf (N .setting) (e .key)) i
   pub covers : (r : Rec) → r ∈ W → r .id .key ≡ e .key → r .id .stamp ≤ x .page .vec (r .id .source) → LeV (r .carried) (x .page .vec) → Covers (N .setting) (e .key) (e .says) (r .id)
   pub shows : Shows W (e .key) (e .says)
   pub fits : (y : Id) → y ∈ shownIn (e .key) (e .says) → (b : Below W (x .page .gathered) y) × LeV (b .rec .carried) (x .page .vec)

@@ -7,7 +7,7 @@ use mathlib.Core.List.{List, [], _∷_}
 use lib.Dec.{leb}
 use lib.IntN.{ℤ}
 use Rattle.vector.specs.Vec.{larger, withEntry}
-use Rattle.protocol.specs.Record.{partOf, Msg, Update, Beat, newest, ofKey, fitsPage, raisedBy}
+use Rattle.protocol.specs.Record.{partitionOf, Msg, Update, Heartbeat, newest, ofKey, fitsPage, raisedBy}
 use Rattle.protocol.specs.State.{Session, noPage, closed, opened, withVec, withPage}
 use Rattle.protocol.specs.Event.{OPEN, CLOSE, CLOCK, GET, PUT, BEGIN, READ, END, BEAT, DELIVER, Answer, Done, Stamped, Refused, plain, shown}
 use Rattle.protocol.specs.View.{View}
@@ -63,7 +63,7 @@ module _ (v : View) where
 
   abbrev pub getOf : (s k : ℕ) → Outcome
   getOf s k =
-      let p = partOf (v .setting) k in
+      let p = partitionOf (v .setting) k in
       let o = newest (v .setting) (ofKey k) (v .store p) in
       ifNoPage x (cond (getReady (x .site) (v .heard p) (x .vec)) (keeps (shown o) s (withVec x (raisedBy (x .vec) o))) (refuse 3))
 
@@ -81,7 +81,7 @@ module _ (v : View) where
       cond slot (cond room (cond (putReady (x .vec) (v .heard p (x .site)) (v .clock p)) (stampedBy s k q l p (v .clock p)) (refuse 3)) (refuse 21)) (refuse 22)
 
   pub put-judged : (s k q : ℕ) (l : ℤ) →
-      let p = partOf (v .setting) k in
+      let p = partitionOf (v .setting) k in
       judged v (PUT s k q l) ≡ ifNoPage x (putAt s k q l p (storeRoom (v .store p)) (sendRoom v (x .site) p))
   unfolding judged judge needs serve
   put-judged s k q l = refl
@@ -95,7 +95,7 @@ module _ (v : View) where
 
   abbrev pub readOf : (s k : ℕ) → Outcome
   readOf s k =
-      let p = partOf (v .setting) k in
+      let p = partitionOf (v .setting) k in
       let g = x .page in
       let o = newest (v .setting) (fitsPage k (g .vec)) (v .store p) in
       ifPage x (cond (awaited k (g .marks)) (cond (readReady (v .heard p) (g .vec)) (keeps (shown o) s (withPage x (readOn g k o))) (refuse 3)) (refuse 16))
@@ -117,9 +117,9 @@ module _ (v : View) where
   unfolding judged judge needs serve
   clock-judged m p t = refl
 
-  pub beat-judged : (m p : ℕ) → judged v (BEAT m p) ≡ cond (beatSends (v .heard p m) (v .clock p)) (cond (sendRoom v m p) (Done and Publish m p (Beat (v .clock p)) ∷ []) (refuse 21)) (Done and [])
+  pub beat-judged : (m p : ℕ) → judged v (BEAT m p) ≡ cond (beatSends (v .heard p m) (v .clock p)) (cond (sendRoom v m p) (Done and Publish m p (Heartbeat (v .clock p)) ∷ []) (refuse 21)) (Done and [])
   unfolding judged judge needs serve
-  beat-judged m p = go (beatSends (v .heard p m) (v .clock p)) (sendRoom v m p) (Publish m p (Beat (v .clock p)) ∷ [])
+  beat-judged m p = go (beatSends (v .heard p m) (v .clock p)) (sendRoom v m p) (Publish m p (Heartbeat (v .clock p)) ∷ [])
     where
       go : (a r : Bool) (l : List Change) → cond (not a || r) (Done and cond a l []) (refuse 21) ≡ cond a (cond r (Done and l) (refuse 21)) (Done and [])
       go true true l = refl
@@ -140,4 +140,4 @@ module _ (v : View) where
       go : (y : Msg) (b : Bool) → cond (not (frontUpdates (y ∷ l)) || b) (Done and taken i m p (y ∷ l)) (refuse 22) ≡ cond (frontUpdates (y ∷ []) && not b) (refuse 22) (Done and Receive i m p y ∷ [])
       go (Update r) true = unfold frontUpdates taken in refl
       go (Update r) false = unfold frontUpdates taken in refl
-      go (Beat s) b = unfold frontUpdates taken in refl
+      go (Heartbeat s) b = unfold frontUpdates taken in refl

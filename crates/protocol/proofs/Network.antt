@@ -1,5 +1,4 @@
 -- The three changes of the network keep its invariant: publish (PUT, BEAT), receive (DELIVER), setClock (CLOCK). Each also gives `Later`.
--- Assumes nothing.
 use Prim.Native.Nat.{ℕ, _≤_, _<_, max}
 use native.Mathlib.Omega.{arith}
 use mathlib.Core.Path.{_≡_, refl, sym, ap, subst}
@@ -10,7 +9,7 @@ use lib.Dec.{T, ltb, eqb, lt→ltb}
 use mir.Facts.{T-not, and-yes, yes-and, eqb-yes}
 use Rattle.codec.proofs.Tests.{cond-elim, yes-eqb}
 use Rattle.vector.specs.Vec.{Vec, width, withEntry, atLeast}
-use Rattle.protocol.specs.Record.{partOf, Rec, Msg, Update, Beat, stampIn, recordsIn}
+use Rattle.protocol.specs.Record.{partitionOf, Rec, Msg, Update, Heartbeat, stampIn, recordsIn}
 use Rattle.protocol.specs.State.{Net}
 use Rattle.protocol.specs.Change.{at, setClock, publish, receive}
 use Rattle.protocol.specs.Past.{_∈_}
@@ -41,7 +40,7 @@ update-in r x e = subst (λ y. r ∈ recordsIn y) e (List·Memᴰ·head refl)
 in-update : (r : Rec) (x : Msg) → r ∈ recordsIn x → x ≡ Update r
 unfolding recordsIn
 in-update r (Update q) m = ap Update (sym (List·Memᴰ·eq-of-singleton m))
-in-update r (Beat t) m = absurd (List·Memᴰ·not-nil m)
+in-update r (Heartbeat t) m = absurd (List·Memᴰ·not-nil m)
 
 -- ---- PUBLISH
 
@@ -134,7 +133,7 @@ module _ (N : Net) (W : List Rec) (m p : ℕ) (x : Msg) (I : NetInv N W) (site :
   new-not-old : (r q : Rec) → r ∈ recordsIn x → q ∈ W → r .id ≡ q .id → ⊥
   new-not-old r q n w e =
       let a = new-above r n in
-      let b = subst (λ i. i .stamp ≤ N .heard (i .source) (partOf (N .setting) (i .key)) (i .source)) (sym e) (I .own q w) in
+      let b = subst (λ i. i .stamp ≤ N .heard (i .source) (partitionOf (N .setting) (i .key)) (i .source)) (sym e) (I .own q w) in
       omega arith
 
   publish-once : (r q : Rec) → (r ∈ recordsIn x) ⊎ (r ∈ W) → (q ∈ recordsIn x) ⊎ (q ∈ W) → r .id ≡ q .id → r ≡ q

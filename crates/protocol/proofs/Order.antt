@@ -1,5 +1,5 @@
 -- The order of records and the search for the newest. The rules to use: `no-older-refl`, `no-older-trans`, `newer-trans`, `newer-no-older`, and
--- `newest-is`, which says of any test what the search finds. Nobody above looks into `newer` or `rank`. Assumes nothing.
+-- `newest-is`, which says of any test what the search finds. Nobody above looks into `newer` or `rank`.
 use Prim.Native.Nat.{ℕ, _≤_, _<_}
 use native.Mathlib.Decide.{decLt}
 use native.Mathlib.Omega.{arith}

@@ -1,5 +1,5 @@
 -- The search by places is the protocol's search for the newest. In order: what is found at the place is the newest, the cases of one more record,
--- the place's range, that the record there fits, and what fits a read of either kind. Assumes nothing.
+-- the place's range, that the record there fits, and what fits a read of either kind.
 use Prim.Native.Nat.{ℕ, zero, suc, _+_, _-_, _≤_}
 use native.Mathlib.Numerals.{add-one}
 use native.Mathlib.Omega.{arith}

@@ -1,11 +1,11 @@
--- Document 01's bench lines, and a page with its refusals, computed by the checker. Assumes nothing.
+-- The lines of vectors/base/document-01.events, and a page with its refusals, computed by the checker.
 use Prim.Native.Nat.{ℕ}
 use mathlib.Core.Path.{_≡_, refl}
 use mathlib.Core.List.{List, [], _∷_}
 use lib.IntN.{pos, negsuc}
 use Rattle.codec.specs.Below.{allBelow}
 use Rattle.vector.specs.Vec.{width, zeros, atMost, atMostBut, largestOf, largest, withEntry, atLeast, larger, raised}
-use Rattle.protocol.specs.Record.{partOf, stampIn, recordsIn, rank, newer, newerOf, newest, ofKey, fitsPage, raisedBy}
+use Rattle.protocol.specs.Record.{partitionOf, stampIn, recordsIn, rank, newer, newerOf, newest, ofKey, fitsPage, raisedBy}
 use Rattle.protocol.specs.Shelf.{shelve}
 use Rattle.protocol.specs.State.{noPage, closed, opened, setup}
 use Rattle.protocol.specs.Event.{Event, OPEN, CLOSE, CLOCK, GET, PUT, BEGIN, READ, END, BEAT, DELIVER, Answer, Done, Stamped, Value, Refused, plain, shown}
@@ -20,7 +20,7 @@ answers (l ∷ ls) = l .says ∷ answers ls
 
 -- a proof that unfolds this lets the checker compute whole runs
 unfoldable pub computing : Unit {0}
-unfolding answers log step decide judge judged next serve needs ranges width zeros allBelow atMost atMostBut largestOf largest withEntry atLeast larger raised partOf stampIn recordsIn rank newer newerOf newest ofKey fitsPage raisedBy noPage closed opened setup plain shown levelLawful keysLawful getReady putReady readReady beatSends storeRoom sendRoom isEmpty frontUpdates holdsKey distinct awaited allRead shelve upd at setClock publish receive apply applyAll written unread markRead begun readOn taken
+unfolding answers log step decide judge judged next serve needs ranges width zeros allBelow atMost atMostBut largestOf largest withEntry atLeast larger raised partitionOf stampIn recordsIn rank newer newerOf newest ofKey fitsPage raisedBy noPage closed opened setup plain shown levelLawful keysLawful getReady putReady readReady beatSends storeRoom sendRoom isEmpty frontUpdates holdsKey distinct awaited allRead shelve upd at setClock publish receive apply applyAll written unread markRead begun readOn taken
 computing = tt
 
 abbrev pub refused : ℕ → Answer
@@ -70,7 +70,7 @@ benchAnswers =
     ∷ Value 0 0 (pos 1250) 100
     ∷ []
 
-bench : answers (log (setup (record { sites = 4; parts = 4 })) benchEvents) ≡ benchAnswers
+bench : answers (log (setup (record { sites = 4; partitions = 4 })) benchEvents) ≡ benchAnswers
 unfolding computing benchEvents benchAnswers
 bench = refl
 
@@ -138,6 +138,6 @@ pageAnswers =
     ∷ refused 12
     ∷ []
 
-page : answers (log (setup (record { sites = 2; parts = 2 })) pageEvents) ≡ pageAnswers
+page : answers (log (setup (record { sites = 2; partitions = 2 })) pageEvents) ≡ pageAnswers
 unfolding computing pageEvents pageAnswers
 page = refl

@@ -1,5 +1,5 @@
 -- The search from the front, as a loop goes: one more record behind the others either is the newest or leaves what was found. Over any test of
--- fitness. Assumes nothing.
+-- fitness.
 use mathlib.Core.Path.{_≡_, refl, ap}
 use mathlib.Core.Bool.{Bool, true, false, cond, not}
 use mathlib.Core.List.{List, [], _∷_, _++_}

@@ -1,5 +1,5 @@
 -- The sessions' half of the invariant. In order: what a vector answers for; the past of a record's writer; any step of the network; one session
--- changes; and what GET, BEGIN, READ and END leave of their session, with what GET and READ cover. Assumes nothing.
+-- changes; and what GET, BEGIN, READ and END leave of their session, with what GET and READ cover.
 use Prim.Native.Nat.{ℕ, _≤_, _<_}
 use native.Mathlib.Omega.{arith}
 use mathlib.Core.Path.{_≡_, refl, sym, ap, subst, _∙_}
@@ -12,7 +12,7 @@ use mir.Facts.{T-not, and-yes, yes-and, eqb-yes}
 use Rattle.codec.proofs.Tests.{cond-elim, yes-eqb}
 use Rattle.vector.specs.Vec.{Vec, width, atMost, larger}
 use Rattle.vector.proofs.Vec.{LeV, le-trans, at-most-le, le-at-most, at-most-but-le, larger-left, larger-right, raised-carried, raised-stamp}
-use Rattle.protocol.specs.Record.{Setting, partOf, Id, Rec, newest, ofKey, fitsPage, raisedBy}
+use Rattle.protocol.specs.Record.{Setting, partitionOf, Id, Rec, newest, ofKey, fitsPage, raisedBy}
 use Rattle.protocol.specs.State.{Net, Session, noPage, withVec, withPage}
 use Rattle.protocol.specs.Event.{Answer, shown}
 use Rattle.protocol.specs.Needs.{getReady, readReady}
@@ -110,18 +110,18 @@ module _ (N : Net) (W : List Rec) (N′ : Net) (W′ : List Rec) (L : Later N W 
   entry-frame : (x : Session) (e : Entry) → EntryInv N W x e → EntryInv N′ W′ x e
   unfolding below-keep
   entry-frame x e E = record {
-    past = λ i l. rw (L .setting) (let a = E .past i l in let b = L .heard i (partOf (N .setting) (e .key)) i in omega arith);
+    past = λ i l. rw (L .setting) (let a = E .past i l in let b = L .heard i (partitionOf (N .setting) (e .key)) i in omega arith);
     covers = λ r w k t c. rw (L .setting) (covers r k t c (L .fresh r w));
     shows = shows-frame (e .key) (e .says) (E .shows);
     fits = λ y m. let f = E .fits y m in (below-keep W W′ (x .page .gathered) y (L .keep) (f .0), f .1);
   }
     where
       covers : (r : Rec) → r .id .key ≡ e .key → r .id .stamp ≤ x .page .vec (r .id .source) → LeV (r .carried) (x .page .vec) →
-          (r ∈ W) ⊎ ((r .id .source < width) × (N .heard (r .id .source) (partOf (N .setting) (r .id .key)) (r .id .source) < r .id .stamp)) → Covers (N .setting) (e .key) (e .says) (r .id)
+          (r ∈ W) ⊎ ((r .id .source < width) × (N .heard (r .id .source) (partitionOf (N .setting) (r .id .key)) (r .id .source) < r .id .stamp)) → Covers (N .setting) (e .key) (e .says) (r .id)
       covers r k t c (inl w) = E .covers r w k t c
       covers r k t c (inr f) =
           let a = E .past (r .id .source) (f .0) in
-          let b = subst (λ j. N .heard (r .id .source) (partOf (N .setting) j) (r .id .source) < r .id .stamp) k (f .1) in
+          let b = subst (λ j. N .heard (r .id .source) (partitionOf (N .setting) j) (r .id .source) < r .id .stamp) k (f .1) in
           absurd (omega arith)
 
   pub session-frame : (h : Story) (x : Session) → SessionInv N W h x → SessionInv N′ W′ h x
@@ -194,10 +194,10 @@ module _ (N : Net) (W : List Rec) (I : NetInv N W) where
 module _ (N : Net) (W : List Rec) (I : NetInv N W) (h : Story) (x : Session) (S : SessionInv N W h x) (open-now : T (x .isOpen)) where
   -- the node of key k at the session's site
   abbrev heardHere : ℕ → Vec
-  heardHere k = N .heard (x .site) (partOf (N .setting) k)
+  heardHere k = N .heard (x .site) (partitionOf (N .setting) k)
 
   abbrev storeHere : ℕ → List Rec
-  storeHere k = N .store (x .site) (partOf (N .setting) k)
+  storeHere k = N .store (x .site) (partitionOf (N .setting) k)
 
   stored-here : (k : ℕ) (r : Rec) → r ∈ W → r .id .key ≡ k → r .id .stamp ≤ heardHere k (r .id .source) → r ∈ storeHere k
   stored-here k r w e l =
@@ -211,8 +211,8 @@ module _ (N : Net) (W : List Rec) (I : NetInv N W) (h : Story) (x : Session) (S 
     where
       go : (r .id .source ≡ x .site) ⊎ (x .vec (r .id .source) ≤ heardHere k (r .id .source)) → r .id .stamp ≤ heardHere k (r .id .source)
       go (inl u) =
-          let a = subst (λ j. r .id .stamp ≤ N .heard (r .id .source) (partOf (N .setting) j) (r .id .source)) e (I .own r w) in
-          subst (λ m. r .id .stamp ≤ N .heard m (partOf (N .setting) k) (r .id .source)) u a
+          let a = subst (λ j. r .id .stamp ≤ N .heard (r .id .source) (partitionOf (N .setting) j) (r .id .source)) e (I .own r w) in
+          subst (λ m. r .id .stamp ≤ N .heard m (partitionOf (N .setting) k) (r .id .source)) u a
       go (inr u) = omega arith
 
   pub get-covers : (k : ℕ) → T (getReady (x .site) (heardHere k) (x .vec)) → CoversAll (N .setting) k (shown (newest (N .setting) (ofKey k) (storeHere k))) (h .past)
@@ -231,7 +231,7 @@ module _ (N : Net) (W : List Rec) (I : NetInv N W) (h : Story) (x : Session) (S 
   get-session ws Q k u o n = record {
     here = λ t. S .here open-now;
     past = all-append W v (withPasts ws (shownIn k (shown o))) (h .past)
-        (pasts-below N W I ws Q v (shownIn k (shown o)) (λ y i. search-below N W I k (ofKey k) (λ r t. t) (x .site) (partOf (N .setting) k) (x .vec) o n y i .0))
+        (pasts-below N W I ws Q v (shownIn k (shown o)) (λ y i. search-below N W I k (ofKey k) (λ r t. t) (x .site) (partitionOf (N .setting) k) (x .vec) o n y i .0))
         (all-up W (x .vec) v (h .past) (raised-by-up (x .vec) o) (S .past));
     page = λ t. absurd (T-not (x .page .isOpen) t u);
     blank = S .blank;
@@ -263,11 +263,11 @@ module _ (N : Net) (W : List Rec) (I : NetInv N W) (h : Story) (x : Session) (S 
     unfolding readReady
     page-heard = at-most-le (x .page .vec) (heardHere k) ready
 
-    read-past : (i : ℕ) → i < width → x .page .vec i ≤ N .heard i (partOf (N .setting) k) i
+    read-past : (i : ℕ) → i < width → x .page .vec i ≤ N .heard i (partitionOf (N .setting) k) i
     unfolding LeV
     read-past i l =
         let a = page-heard i l in
-        let b = ascending-le (N .chan i (x .site) (partOf (N .setting) k)) (heardHere k i) (N .heard i (partOf (N .setting) k) i) (I .order i (x .site) (partOf (N .setting) k)) in
+        let b = ascending-le (N .chan i (x .site) (partitionOf (N .setting) k)) (heardHere k i) (N .heard i (partitionOf (N .setting) k) i) (I .order i (x .site) (partitionOf (N .setting) k)) in
         omega arith
 
     read-covers : (r : Rec) → r ∈ W → r .id .key ≡ k → r .id .stamp ≤ x .page .vec (r .id .source) → LeV (r .carried) (x .page .vec) → Covers (N .setting) k (shown o) (r .id)
@@ -285,9 +285,9 @@ module _ (N : Net) (W : List Rec) (I : NetInv N W) (h : Story) (x : Session) (S 
     read-this = record {
       past = read-past;
       covers = read-covers;
-      shows = search-shows N W I k fit fits-key (x .site) (partOf (N .setting) k) o n;
+      shows = search-shows N W I k fit fits-key (x .site) (partitionOf (N .setting) k) o n;
       fits = λ y i.
-          let b = search-below N W I k fit fits-key (x .site) (partOf (N .setting) k) (x .page .gathered) o n y i in
+          let b = search-below N W I k fit fits-key (x .site) (partitionOf (N .setting) k) (x .page .gathered) o n y i in
           (b .0, at-most-le (b .0 .rec .carried) (x .page .vec) (unfold fitsPage in and-yes (ofKey k (b .0 .rec)) (atMost (b .0 .rec .carried) (x .page .vec)) (b .1) .1));
     }
 

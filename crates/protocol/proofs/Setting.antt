@@ -1,4 +1,4 @@
--- No step changes the setup's constants. Assumes nothing.
+-- No step changes the setup's constants.
 use mathlib.Core.Path.{_≡_, refl, _∙_}
 use mathlib.Core.List.{List, [], _∷_}
 use Rattle.protocol.specs.Record.{Setting}

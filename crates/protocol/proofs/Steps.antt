@@ -1,5 +1,5 @@
 -- Every step keeps the invariant. In order: the kinds of step (a session, the network, both for PUT), every event, and every list of events from a
--- fresh setup. Assumes nothing.
+-- fresh setup.
 use Prim.Native.Nat.{ℕ, _≤_, _<_, max}
 use native.Mathlib.Omega.{arith}
 use mathlib.Core.Path.{_≡_, refl, sym, ap, subst}
@@ -13,7 +13,7 @@ use mir.Facts.{T-not, ltb-yes}
 use Rattle.codec.proofs.Tests.{cond-elim}
 use Rattle.vector.specs.Vec.{Vec, width, zeros, largest, larger, withEntry}
 use Rattle.vector.proofs.Vec.{LeV, le-largest, with-entry-same, with-entry-up}
-use Rattle.protocol.specs.Record.{Setting, partOf, Id, Rec, Msg, Update, Beat, stampIn, recordsIn, newest, ofKey, fitsPage, raisedBy}
+use Rattle.protocol.specs.Record.{Setting, partitionOf, Id, Rec, Msg, Update, Heartbeat, stampIn, recordsIn, newest, ofKey, fitsPage, raisedBy}
 use Rattle.protocol.specs.State.{Net, Session, State, noPage, closed, opened, withVec, withPage, setup}
 use Rattle.protocol.specs.Event.{Event, OPEN, CLOSE, CLOCK, GET, PUT, BEGIN, READ, END, BEAT, DELIVER, Answer, shown}
 use Rattle.protocol.specs.View.{view}
@@ -55,7 +55,7 @@ network-inv S h J N I L = record {
 -- PUT: both. Its time is above the session's vector and above the node's own entry
 module _ (S : State) (h : History) (J : Inv S h) (s k q : ℕ) (l : ℤ) (time : ℕ) (open-now : T (S .session s .isOpen)) (no-page : T (not (S .session s .page .isOpen)))
     (above-session : (i : ℕ) → i < width → S .session s .vec i < time)
-    (above-own : S .net .heard (S .session s .site) (partOf (S .net .setting) k) (S .session s .site) < time) where
+    (above-own : S .net .heard (S .session s .site) (partitionOf (S .net .setting) k) (S .session s .site) < time) where
   abbrev putter : Session
   putter = S .session s
 
@@ -66,15 +66,15 @@ module _ (S : State) (h : History) (J : Inv S h) (s k q : ℕ) (l : ℤ) (time :
   put-vec = withEntry (putter .vec) (putter .site) time
 
   abbrev put-net : Net
-  put-net = publish (S .net) (putter .site) (partOf (S .net .setting) k) (Update put-rec)
+  put-net = publish (S .net) (putter .site) (partitionOf (S .net .setting) k) (Update put-rec)
 
-  put-above : S .net .heard (putter .site) (partOf (S .net .setting) k) (putter .site) < stampIn (Update put-rec)
+  put-above : S .net .heard (putter .site) (partitionOf (S .net .setting) k) (putter .site) < stampIn (Update put-rec)
   unfolding stampIn written
   put-above = above-own
 
-  put-news : (r : Rec) → r ∈ recordsIn (Update put-rec) → (Update put-rec ≡ Update r) × (r .id .source ≡ putter .site) × (home (S .net) r ≡ partOf (S .net .setting) k)
+  put-news : (r : Rec) → r ∈ recordsIn (Update put-rec) → (Update put-rec ≡ Update r) × (r .id .source ≡ putter .site) × (home (S .net) r ≡ partitionOf (S .net .setting) k)
   unfolding recordsIn written
-  put-news r m = let e = List·Memᴰ·eq-of-singleton m in (ap Update (sym e), ap (λ z. z .id .source) e, ap (λ z. partOf (S .net .setting) (z .id .key)) e)
+  put-news r m = let e = List·Memᴰ·eq-of-singleton m in (ap Update (sym e), ap (λ z. z .id .source) e, ap (λ z. partitionOf (S .net .setting) (z .id .key)) e)
 
   put-site : putter .site < S .net .setting .sites
   put-site = J .sessions s .here open-now
@@ -87,13 +87,13 @@ module _ (S : State) (h : History) (J : Inv S h) (s k q : ℕ) (l : ℤ) (time :
 
   put-later : Later (S .net) (J .all) put-net (put-rec ∷ J .all)
   unfolding recordsIn
-  put-later = publish-later (S .net) (J .all) (putter .site) (partOf (S .net .setting) k) (Update put-rec) (J .net) put-site put-above put-news
+  put-later = publish-later (S .net) (J .all) (putter .site) (partitionOf (S .net .setting) k) (Update put-rec) (J .net) put-site put-above put-news
 
-  put-inv : Inv (apply (SetSession s (withVec putter put-vec)) (apply (Publish (putter .site) (partOf (S .net .setting) k) (Update put-rec)) S)) (wrote h s (put-rec .id) q l)
+  put-inv : Inv (apply (SetSession s (withVec putter put-vec)) (apply (Publish (putter .site) (partitionOf (S .net .setting) k) (Update put-rec)) S)) (wrote h s (put-rec .id) q l)
   unfolding apply publish wrote recordsIn written
   put-inv = record {
     all = put-rec ∷ J .all;
-    net = publish-inv (S .net) (J .all) (putter .site) (partOf (S .net .setting) k) (Update put-rec) (J .net) put-site put-above put-news;
+    net = publish-inv (S .net) (J .all) (putter .site) (partitionOf (S .net .setting) k) (Update put-rec) (J .net) put-site put-above put-news;
     writes = λ w m. writes w (List·Memᴰ·cases-cons m);
     told = λ r m. told r (List·Memᴰ·cases-cons m);
     sessions = set-session (SessionInv put-net (put-rec ∷ J .all)) (h .of) (S .session) s (record { past = put-rec .id ∷ h .of s .past; page = h .of s .page }) (withVec putter put-vec)
@@ -136,11 +136,11 @@ put-above-both v own clock t =
     let a : max (largest v) own < clock = ltb-yes t in
     (λ i b. omega (arith, le-largest v i b), omega arith)
 
-beat-inv : (S : State) (h : History) (J : Inv S h) (m p t : ℕ) → m < S .net .setting .sites → S .net .heard m p m < t → Inv (apply (Publish m p (Beat t)) S) h
+beat-inv : (S : State) (h : History) (J : Inv S h) (m p t : ℕ) → m < S .net .setting .sites → S .net .heard m p m < t → Inv (apply (Publish m p (Heartbeat t)) S) h
 unfolding apply recordsIn stampIn
-beat-inv S h J m p t l u = network-inv S h J (publish (S .net) m p (Beat t))
-    (publish-inv (S .net) (J .all) m p (Beat t) (J .net) l u (λ r n. absurd (List·Memᴰ·not-nil n)))
-    (publish-later (S .net) (J .all) m p (Beat t) (J .net) l u (λ r n. absurd (List·Memᴰ·not-nil n)))
+beat-inv S h J m p t l u = network-inv S h J (publish (S .net) m p (Heartbeat t))
+    (publish-inv (S .net) (J .all) m p (Heartbeat t) (J .net) l u (λ r n. absurd (List·Memᴰ·not-nil n)))
+    (publish-later (S .net) (J .all) m p (Heartbeat t) (J .net) l u (λ r n. absurd (List·Memᴰ·not-nil n)))
 
 deliver-inv : (S : State) (h : History) (J : Inv S h) (i m p : ℕ) (l : List Msg) → S .net .chan i m p ≡ l → Inv (applyAll (taken i m p l) S) h
 unfolding apply applyAll taken
@@ -169,7 +169,7 @@ serve-inv S h J (CLOCK m p u) r t = unfold apply in network-inv S h J (setClock 
 serve-inv S h J (GET s k) r t =
     let N = S .net in
     let x = S .session s in
-    let l = N .store (x .site) (partOf (N .setting) k) in
+    let l = N .store (x .site) (partitionOf (N .setting) k) in
     let o = newest (N .setting) (ofKey k) l in
     let y = withVec x (raisedBy (x .vec) o) in
     note-served (Inv (apply (SetSession s y) S)) h (GET s k) (shown o) (shown-served o)
@@ -177,7 +177,7 @@ serve-inv S h J (GET s k) r t =
     (get-session N (J .all) (J .net) (h .of s) x (J .sessions s) (t .0) (h .writes) (J .writes) k (t .1 .0) o (newest-is (N .setting) (ofKey k) l)))
 serve-inv S h J (PUT s k q l) r t =
     let x = S .session s in
-    let p = partOf (S .net .setting) k in
+    let p = partitionOf (S .net .setting) k in
     let c = S .net .clock (x .site) p in
     let f = put-above-both (x .vec) (S .net .heard (x .site) p (x .site)) c (t .1 .1 .1 .1 .0) in
     put-inv S h J s k q l c (t .0) (t .1 .0) (f .0) (f .1)
@@ -189,7 +189,7 @@ serve-inv S h J (BEGIN s p ks) r t =
 serve-inv S h J (READ s k) r t =
     let N = S .net in
     let x = S .session s in
-    let l = N .store (x .site) (partOf (N .setting) k) in
+    let l = N .store (x .site) (partitionOf (N .setting) k) in
     let o = newest (N .setting) (fitsPage k (x .page .vec)) l in
     let y = withPage x (readOn (x .page) k o) in
     note-served (Inv (apply (SetSession s y) S)) h (READ s k) (shown o) (shown-served o)

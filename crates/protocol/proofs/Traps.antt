@@ -1,5 +1,5 @@
--- Document 01's "Traps the trade falls into": for each, the protocol with that one rule changed, and a closed run on which it differs from ours. On
--- the first three it also breaks demand 3. Assumes nothing.
+-- Four traps that replication falls into: for each, the protocol with that one rule changed, and a closed run on which it differs from ours. On
+-- the first three it also breaks demand 3.
 use Prim.Native.Nat.{ℕ}
 use mathlib.Core.Path.{_≡_, refl, subst}
 use mathlib.Core.Bool.{Bool, not, _&&_}
@@ -8,7 +8,7 @@ use mathlib.Core.Option.{Option, some, none}
 use lib.Dec.{leb, ltb}
 use lib.IntN.{pos}
 use Rattle.vector.specs.Vec.{Vec, largest, withEntry, atLeast}
-use Rattle.protocol.specs.Record.{Setting, partOf, Id, Rec, Update, newest, ofKey, fitsPage, raisedBy}
+use Rattle.protocol.specs.Record.{Setting, partitionOf, Id, Rec, Update, newest, ofKey, fitsPage, raisedBy}
 use Rattle.protocol.specs.State.{Session, State, withVec, withPage, setup}
 use Rattle.protocol.specs.Event.{Event, OPEN, CLOSE, CLOCK, GET, PUT, BEGIN, READ, END, BEAT, DELIVER, Answer, Stamped, Value, Nothing, shown}
 use Rattle.protocol.specs.View.{View, view}
@@ -40,11 +40,11 @@ decideBy R v (CLOSE s) = decide v (CLOSE s)
 decideBy R v (CLOCK m p t) = decide v (CLOCK m p t)
 decideBy R v (GET s k) =
     let x = v .session in
-    let o = newest (v .setting) (ofKey k) (v .store (partOf (v .setting) k)) in
+    let o = newest (v .setting) (ofKey k) (v .store (partitionOf (v .setting) k)) in
     judge (ranges (v .setting) (GET s k)) (judge (needs v (GET s k)) (shown o and SetSession s (withVec x (R .raises (x .vec) o)) ∷ []))
 decideBy R v (PUT s k q l) =
     let x = v .session in
-    let p = partOf (v .setting) k in
+    let p = partitionOf (v .setting) k in
     let t = v .clock p in
     judge (ranges (v .setting) (PUT s k q l))
     (judge (x .isOpen else 12 ∷ not (x .page .isOpen) else 14 ∷ storeRoom (v .store p) else 22 ∷ sendRoom v (x .site) p else 21 ∷ R .ready (x .vec) (v .heard p (x .site)) t else 3 ∷ [])
@@ -54,13 +54,13 @@ decideBy R v (PUT s k q l) =
 decideBy R v (BEGIN s p ks) = decide v (BEGIN s p ks)
 decideBy R v (READ s k) =
     let x = v .session in
-    let o = newest (v .setting) (R .fits k (x .page .vec)) (v .store (partOf (v .setting) k)) in
+    let o = newest (v .setting) (R .fits k (x .page .vec)) (v .store (partitionOf (v .setting) k)) in
     judge (ranges (v .setting) (READ s k)) (judge (needs v (READ s k)) (shown o and SetSession s (withPage x (readOn (x .page) k o)) ∷ []))
 decideBy R v (END s) = decide v (END s)
 decideBy R v (BEAT m p) = decide v (BEAT m p)
 decideBy R v (DELIVER i m p) = decide v (DELIVER i m p)
 
--- by our rules it is document 01's
+-- with no rule changed it is ours
 ours-is : (v : View) (e : Event) → decideBy ours v e ≡ decide v e
 unfolding decideBy ours carrying decide judged serve needs written
 ours-is v (OPEN s m) = refl
@@ -79,7 +79,7 @@ logBy R S [] = []
 logBy R S (e ∷ es) = let o = decideBy R (view S e) e in record { event = e; says = o .says } ∷ logBy R (applyAll (o .changes) S) es
 
 unfoldable four : Setting
-four = record { sites = 4; parts = 4 }
+four = record { sites = 4; partitions = 4 }
 
 unfoldable past : Unit {0}
 unfolding computing ours carrying decideBy logBy four served shownIn shownOn sameId writerPast withPasts tell wrote noteServed note start retell history NoOlder Covers CoversAll
@@ -104,7 +104,7 @@ lastOf [] = Nothing
 lastOf (l ∷ []) = l .says
 lastOf (l ∷ m ∷ ls) = lastOf (m ∷ ls)
 
--- on the events the last answer is `mine` by document 01, and `other` by the rules
+-- on the events the last answer is `mine` by our rules, and `other` by the changed ones
 record Differ (R : Rules) (es : List Event) (mine other : Answer) : Type 0 where
   ours-says : lastOf (log (setup four) es) ≡ mine
   trap-says : lastOf (logBy R (setup four) es) ≡ other

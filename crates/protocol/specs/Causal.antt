@@ -1,4 +1,4 @@
--- Demand 3: what every served read keeps to, in terms of the past alone. Assumes nothing.
+-- Demand 3: what every served read keeps to, in terms of the past alone (R83 to R85).
 use Prim.Native.Nat.{ℕ}
 use mathlib.Core.Path.{_≡_}
 use mathlib.Core.Bool.{not}
@@ -20,7 +20,7 @@ Covers c k a x = (y : Id) × (y ∈ shownIn k a) × NoOlder c y x
 unfoldable pub CoversAll : Setting → ℕ → Answer → List Id → Type 0
 CoversAll c k a xs = (x : Id) → x ∈ xs → x .key ≡ k → Covers c k a x
 
--- what the answer shows was written, with that quality and level
+-- R83: what the answer shows was written, with that quality and level
 unfoldable pub Genuine : List Write → ℕ → Answer → Type 0
 Genuine ws k a = (y : Id) → y ∈ shownIn k a → (w : Write) × (w ∈ ws) × (w .id ≡ y) × (w .quality ≡ qualityOf a) × (w .level ≡ levelOf a)
 

@@ -1,9 +1,9 @@
--- What is conserved: the updates of a channel, counted over the events and their answers. Assumes nothing.
+-- What is conserved (R74): the updates of a channel, counted over the events and their answers.
 use Prim.Native.Nat.{ℕ, suc, _+_}
 use mathlib.Core.Bool.{Bool, false, cond, _&&_}
 use mathlib.Core.List.{List, [], _∷_}
 use lib.Dec.{eqb}
-use Rattle.protocol.specs.Record.{partOf, Msg, Update, Beat}
+use Rattle.protocol.specs.Record.{partitionOf, Msg, Update, Heartbeat}
 use Rattle.protocol.specs.State.{Net, State}
 use Rattle.protocol.specs.Event.{Event, OPEN, CLOSE, CLOCK, GET, PUT, BEGIN, READ, END, BEAT, DELIVER, Answer, sourceOf}
 use Rattle.protocol.specs.View.{Place, ofSession, atSite, onChannel, place}
@@ -16,7 +16,7 @@ use Rattle.protocol.specs.Past.{served}
 unfoldable pub waiting : List Msg → ℕ
 waiting [] = 0
 waiting (Update r ∷ l) = suc (waiting l)
-waiting (Beat t ∷ l) = waiting l
+waiting (Heartbeat t ∷ l) = waiting l
 
 -- a PUT at node (i, p)
 unfoldable pub puts : (i p : ℕ) → Net → Event → Answer → Bool
@@ -24,7 +24,7 @@ puts i p N (OPEN s m) a = false
 puts i p N (CLOSE s) a = false
 puts i p N (CLOCK m q t) a = false
 puts i p N (GET s k) a = false
-puts i p N (PUT s k q l) a = at (sourceOf a) (partOf (N .setting) k) i p
+puts i p N (PUT s k q l) a = at (sourceOf a) (partitionOf (N .setting) k) i p
 puts i p N (BEGIN s q ks) a = false
 puts i p N (READ s k) a = false
 puts i p N (END s) a = false

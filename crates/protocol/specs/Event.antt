@@ -1,4 +1,4 @@
--- Events and answers, and the numbers and values that document 01 gives back for each answer. Assumes nothing.
+-- Events and answers, and the five values of each answer.
 use Prim.Native.Nat.{ℕ}
 use mathlib.Core.List.{List}
 use mathlib.Core.Option.{Option, some, none}
@@ -22,7 +22,7 @@ pub data Event : Type 0 where
   BEAT : (m p : ℕ) → Event
   DELIVER : (i m p : ℕ) → Event
 
--- "Every other answer has zeros after the number"
+-- a refusal with zeros after its number (R34)
 unfoldable pub plain : ℕ → Refusal
 plain n = record { number = n; source = 0; stamp = 0 }
 
@@ -30,7 +30,7 @@ unfoldable pub shown : Option Rec → Answer
 shown none = Nothing
 shown (some r) = Value (r .id .source) (r .quality) (r .level) (r .id .stamp)
 
--- ---- "The answer is a value: number, source, quality, level, stamp"
+-- ---- R34: an answer as number, source, quality, level and stamp
 
 abbrev pub five : (number source quality : ℕ) (level : ℤ) (stamp : ℕ) → Values
 five n m q l t = record { number = n; source = m; quality = q; level = l; stamp = t }

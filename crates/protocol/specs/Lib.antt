@@ -1,4 +1,5 @@
--- Document 01 without bytes, in the order in which it is best read. Above the line: the model, from values to runs. Below it: what is promised.
+-- The rules of docs/RULES.md without bytes, in the order in which they are best read; R1, R2, .. in comments are their numbers. First the model, from values to
+-- runs; then the past and what is promised.
 pub mod Record
 pub mod Shelf
 pub mod State
@@ -8,11 +9,11 @@ pub mod Needs
 pub mod Change
 pub mod Serve
 pub mod Step
--- ----
+-- ---- the past and the promises
 pub mod Past
 pub mod Causal
 pub mod Count
 pub mod Promises
+-- ---- below the line: words of contracts inside and of proofs; nobody has to believe them
 pub mod Marked
--- ---- the search as a loop over slots goes: a word of contracts inside, proved to be `newest`
 pub mod Search

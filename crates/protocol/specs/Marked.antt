@@ -1,4 +1,4 @@
--- Document 01's marked examples P1 to P11, of the definitions that the steps use, as one statement.
+-- Eleven small examples, P1 to P11, of the definitions that the steps use, as one statement.
 use Prim.Native.Nat.{ℕ, zero, suc}
 use mathlib.Core.Path.{_≡_}
 use mathlib.Core.Bool.{true, false}
@@ -7,7 +7,7 @@ use mathlib.Core.Option.{some}
 use lib.IntN.{pos}
 use Rattle.codec.specs.Tabulate.{tabulate}
 use Rattle.vector.specs.Vec.{Vec, width, raised}
-use Rattle.protocol.specs.Record.{Setting, partOf, Rec, newer, newest, fitsPage}
+use Rattle.protocol.specs.Record.{Setting, partitionOf, Rec, newer, newest, fitsPage}
 use Rattle.protocol.specs.Needs.{getReady, putReady, readReady}
 use Rattle.protocol.specs.Serve.{begun}
 
@@ -23,8 +23,8 @@ unfoldable pub rec : (stamp site : ℕ) → Vec → Rec
 rec t m v = record { id = record { key = 0; source = m; stamp = t }; quality = 0; level = pos 0; carried = v }
 
 -- four sites
-unfoldable pub four : (parts : ℕ) → Setting
-four p = record { sites = 4; parts = p }
+unfoldable pub four : (partitions : ℕ) → Setting
+four p = record { sites = 4; partitions = p }
 
 pub record Marked : Type 0 where
   pub P1 : newer (four 4) (rec 100 1 (vec 0 0 0 0) .id) (rec 100 0 (vec 0 0 0 0) .id) ≡ true
@@ -37,4 +37,4 @@ pub record Marked : Type 0 where
   pub P8 : tabulate width (begun (vec 12 10 0 0) (vec 9 11 0 0) [] .vec) ≡ 12 ∷ 11 ∷ 0 ∷ 0 ∷ []
   pub P9 : newest (four 4) (fitsPage 0 (vec 20 10 0 0)) (rec 20 0 (vec 0 15 0 0) ∷ rec 18 1 (vec 0 0 0 0) ∷ []) ≡ some (rec 18 1 (vec 0 0 0 0))
   pub P10 : fitsPage 0 (vec 10 4 0 0) (rec 11 0 (vec 10 4 0 0)) ≡ true
-  pub P11 : (partOf (four 4) 63 ≡ 3) × (partOf (four 3) 63 ≡ 0)
+  pub P11 : (partitionOf (four 4) 63 ≡ 3) × (partitionOf (four 3) 63 ≡ 0)

@@ -1,5 +1,5 @@
--- What each event needs, from top to bottom as in "Numbers given back", and the number given where it fails. 3 is a wait.
--- 23, 24, 10 and the unused fields of 11 are about bytes and stand around the model. Assumes nothing.
+-- What each event needs, from top to bottom (R40 to R50, R60), and the number given where a need fails. 3 is a wait.
+-- 23, 24, 10 and the unused fields of 11 are about bytes and stand around the model.
 use Prim.Native.Nat.{ℕ, _^_, max}
 use mathlib.Core.Bool.{Bool, true, false, not, _&&_, _||_}
 use mathlib.Core.List.{List, [], _∷_}
@@ -8,7 +8,7 @@ use lib.Dec.{leb, ltb, eqb}
 use lib.IntN.{ℤ, pos, negsuc}
 use Rattle.codec.specs.Below.{allBelow}
 use Rattle.vector.specs.Vec.{Vec, atMost, atMostBut, largest}
-use Rattle.protocol.specs.Record.{Setting, partOf, Rec, Msg, Update, Beat}
+use Rattle.protocol.specs.Record.{Setting, partitionOf, Rec, Msg, Update, Heartbeat}
 use Rattle.protocol.specs.State.{Mark}
 use Rattle.protocol.specs.Event.{Event, OPEN, CLOSE, CLOCK, GET, PUT, BEGIN, READ, END, BEAT, DELIVER, Refusal, plain}
 use Rattle.protocol.specs.View.{View}
@@ -21,9 +21,9 @@ pub record Need : Type 0 where
 abbrev pub _else_ : Bool → ℕ → Need
 b else n = record { holds = b; refusal = plain n }
 
--- ---- 11: the range of each used field, in the order of the event's bytes
+-- ---- 11: the range of each used field (R32), in the order of the event's bytes
 
--- −50,000 to 1,000,000; negsuc n is −(n + 1)
+-- R6: −50,000 to 1,000,000; negsuc n is −(n + 1)
 unfoldable pub levelLawful : ℤ → Bool
 levelLawful (pos n) = leb n 1000000
 levelLawful (negsuc n) = ltb n 50000
@@ -35,31 +35,31 @@ keysLawful (k ∷ ks) = ltb k 64 && keysLawful ks
 unfoldable pub ranges : Setting → Event → List Need
 ranges c (OPEN s m) = ltb m (c .sites) else 11 ∷ ltb s 16 else 11 ∷ []
 ranges c (CLOSE s) = ltb s 16 else 11 ∷ []
-ranges c (CLOCK m p t) = ltb m (c .sites) else 11 ∷ ltb p (c .parts) else 11 ∷ ltb t (2 ^ 48) else 11 ∷ []
+ranges c (CLOCK m p t) = ltb m (c .sites) else 11 ∷ ltb p (c .partitions) else 11 ∷ ltb t (2 ^ 48) else 11 ∷ []
 ranges c (GET s k) = ltb s 16 else 11 ∷ ltb k 64 else 11 ∷ []
 ranges c (PUT s k q l) = ltb s 16 else 11 ∷ ltb k 64 else 11 ∷ ltb q 3 else 11 ∷ levelLawful l else 11 ∷ []
 ranges c (BEGIN s p ks) =
-    ltb p (c .parts) else 11 ∷ ltb s 16 else 11 ∷ (ltb 0 (length ks) && leb (length ks) 8) else 11 ∷ keysLawful ks else 11 ∷ []
+    ltb p (c .partitions) else 11 ∷ ltb s 16 else 11 ∷ (ltb 0 (length ks) && leb (length ks) 8) else 11 ∷ keysLawful ks else 11 ∷ []
 ranges c (READ s k) = ltb s 16 else 11 ∷ ltb k 64 else 11 ∷ []
 ranges c (END s) = ltb s 16 else 11 ∷ []
-ranges c (BEAT m p) = ltb m (c .sites) else 11 ∷ ltb p (c .parts) else 11 ∷ []
-ranges c (DELIVER i m p) = ltb m (c .sites) else 11 ∷ ltb p (c .parts) else 11 ∷ (ltb i (c .sites) && not (eqb i m)) else 11 ∷ []
+ranges c (BEAT m p) = ltb m (c .sites) else 11 ∷ ltb p (c .partitions) else 11 ∷ []
+ranges c (DELIVER i m p) = ltb m (c .sites) else 11 ∷ ltb p (c .partitions) else 11 ∷ (ltb i (c .sites) && not (eqb i m)) else 11 ∷ []
 
 -- ---- tests
 
--- GET at site m is served: "the node's entry for every site other than m is at least the session's"
+-- R44, GET at site m: the node's entry for every other site is at least the session's
 unfoldable pub getReady : (m : ℕ) (node session : Vec) → Bool
 getReady m node session = atMostBut m session node
 
--- PUT is served: "the node's clock is greater than every entry of the session's vector and greater than the node's own entry"
+-- R45, PUT: the clock is greater than every entry of the session's vector and than the node's own entry
 unfoldable pub putReady : (session : Vec) (own clock : ℕ) → Bool
 putReady session own clock = ltb (max (largest session) own) clock
 
--- READ is served: "every entry of the node's vector, m included, is at least the page's"
+-- R47, READ: every entry of the node's vector is at least the page's
 unfoldable pub readReady : (node page : Vec) → Bool
 readReady node page = atMost page node
 
--- BEAT sends: "the clock is greater than entry m"
+-- R49, BEAT sends: the clock is greater than the node's own entry
 unfoldable pub beatSends : (own clock : ℕ) → Bool
 beatSends own clock = ltb own clock
 
@@ -77,7 +77,7 @@ isEmpty (x ∷ l) = false
 unfoldable pub frontUpdates : List Msg → Bool
 frontUpdates [] = false
 frontUpdates (Update r ∷ l) = true
-frontUpdates (Beat t ∷ l) = false
+frontUpdates (Heartbeat t ∷ l) = false
 
 unfoldable pub holdsKey : ℕ → List ℕ → Bool
 holdsKey k [] = false
@@ -106,10 +106,10 @@ needs v (GET s k) =
     let x = v .session in
     x .isOpen else 12 ∷
     not (x .page .isOpen) else 14 ∷
-    getReady (x .site) (v .heard (partOf (v .setting) k)) (x .vec) else 3 ∷ []
+    getReady (x .site) (v .heard (partitionOf (v .setting) k)) (x .vec) else 3 ∷ []
 needs v (PUT s k q l) =
     let x = v .session in
-    let p = partOf (v .setting) k in
+    let p = partitionOf (v .setting) k in
     x .isOpen else 12 ∷
     not (x .page .isOpen) else 14 ∷
     storeRoom (v .store p) else 22 ∷
@@ -125,7 +125,7 @@ needs v (READ s k) =
     x .isOpen else 12 ∷
     x .page .isOpen else 15 ∷
     awaited k (x .page .marks) else 16 ∷
-    readReady (v .heard (partOf (v .setting) k)) (x .page .vec) else 3 ∷ []
+    readReady (v .heard (partitionOf (v .setting) k)) (x .page .vec) else 3 ∷ []
 needs v (END s) =
     let x = v .session in
     x .isOpen else 12 ∷

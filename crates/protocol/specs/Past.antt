@@ -1,4 +1,4 @@
--- A session's past, worked out from the events and their answers alone: `history` never sees a state. Assumes nothing.
+-- A session's past (R81), worked out from the events and their answers alone: `history` never sees a state.
 use Prim.Native.Nat.{ℕ}
 use mathlib.Core.Bool.{Bool, true, false, cond, _&&_}
 use mathlib.Core.List.{List, [], _∷_, _++_, List·Memᴰ}
@@ -57,7 +57,7 @@ shownOn (e ∷ es) = shownIn (e .key) (e .says) ++ shownOn es
 unfoldable pub sameId : Id → Id → Bool
 sameId x y = eqb (x .key) (y .key) && (eqb (x .source) (y .source) && eqb (x .stamp) (y .stamp))
 
--- the past that the writer of y had at that write
+-- R82: the past that the writer of y had at that write
 unfoldable pub writerPast : List Write → Id → List Id
 writerPast [] y = []
 writerPast (w ∷ ws) y = cond (sameId (w .id) y) (w .past ++ writerPast ws y) (writerPast ws y)

@@ -1,4 +1,4 @@
--- What is promised: of every list of events on a fresh setup, and of every step. Each proof reads `pub name : Name`. Assumes nothing.
+-- What is promised: of every list of events on a fresh setup, and of every step. Each proof reads `pub name : Name`.
 use Prim.Native.Nat.{ℕ, _+_, _≤_, _<_}
 use mathlib.Core.Path.{_≡_}
 use mathlib.Core.Logic.{_≢_}
@@ -30,7 +30,7 @@ Conserved = (c : Setting) (es : List Event) (i m p : ℕ) → i ≢ m → m < c 
 
 -- INFLUENCE. p is a partition: every setup has one at least, and where there were none any number would do
 abbrev pub IsPart : Setting → ℕ → Type 0
-IsPart c p = 0 < c .parts → p < c .parts
+IsPart c p = 0 < c .partitions → p < c .partitions
 
 -- two networks are alike in the constants, the nodes of site m, and how full their channels to the sites are
 pub record SiteAlike (N M : Net) (m : ℕ) : Type 0 where

@@ -1,5 +1,5 @@
 -- The search for the newest record as a loop goes over slots: by its place from 1, and 0 for none. That it is the protocol's `newest` is proved in
--- proofs/Search. Assumes nothing.
+-- proofs/Places.
 use Prim.Native.Nat.{ℕ, zero, suc, _-_}
 use mathlib.Core.Bool.{Bool, cond, _&&_, _||_}
 use mathlib.Core.Option.{Option, some, none}

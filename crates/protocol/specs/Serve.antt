@@ -1,4 +1,4 @@
--- "The protocol's steps": what each event answers and changes where all that it needs holds. Assumes nothing.
+-- What each event answers and changes where all that it needs holds (R41 to R50).
 use Prim.Native.Nat.{ℕ}
 use mathlib.Core.Bool.{true, false, cond, _||_}
 use mathlib.Core.List.{List, [], _∷_}
@@ -6,7 +6,7 @@ use mathlib.Core.Option.{Option}
 use lib.Dec.{eqb}
 use lib.IntN.{ℤ}
 use Rattle.vector.specs.Vec.{Vec, zeros, larger, withEntry}
-use Rattle.protocol.specs.Record.{partOf, Rec, Msg, Update, Beat, newest, ofKey, fitsPage, raisedBy}
+use Rattle.protocol.specs.Record.{partitionOf, Rec, Msg, Update, Heartbeat, newest, ofKey, fitsPage, raisedBy}
 use Rattle.protocol.specs.State.{Mark, Page, Session, noPage, closed, opened, withVec, withPage}
 use Rattle.protocol.specs.Event.{Event, OPEN, CLOSE, CLOCK, GET, PUT, BEGIN, READ, END, BEAT, DELIVER, Answer, Done, Stamped, shown}
 use Rattle.protocol.specs.View.{View}
@@ -21,7 +21,7 @@ pub record Outcome : Type 0 where
 abbrev pub _and_ : Answer → List Change → Outcome
 a and cs = record { says = a; changes = cs }
 
--- "The record carries the session's vector as it was before"
+-- R45: the record carries the session's vector as it was before
 unfoldable pub written : Session → (k q : ℕ) (l : ℤ) (t : ℕ) → Rec
 written x k q l t = record { id = record { key = k; source = x .site; stamp = t }; quality = q; level = l; carried = x .vec }
 
@@ -33,7 +33,7 @@ unfoldable pub markRead : ℕ → List Mark → List Mark
 markRead k [] = []
 markRead k (m ∷ ms) = record { key = m .key; read = m .read || eqb (m .key) k } ∷ markRead k ms
 
--- the coordinator's vector is the named partition's node's
+-- R46: the coordinator is the node of the event's partition
 unfoldable pub begun : (coordinator session : Vec) → List ℕ → Page
 begun coordinator session ks = record { isOpen = true; vec = larger coordinator session; marks = unread ks; gathered = zeros }
 
@@ -50,11 +50,11 @@ serve v (CLOSE s) = Done and SetSession s closed ∷ []
 serve v (CLOCK m p t) = Done and SetClock m p t ∷ []
 serve v (GET s k) =
     let x = v .session in
-    let o = newest (v .setting) (ofKey k) (v .store (partOf (v .setting) k)) in
+    let o = newest (v .setting) (ofKey k) (v .store (partitionOf (v .setting) k)) in
     shown o and SetSession s (withVec x (raisedBy (x .vec) o)) ∷ []
 serve v (PUT s k q l) =
     let x = v .session in
-    let p = partOf (v .setting) k in
+    let p = partitionOf (v .setting) k in
     let t = v .clock p in
     Stamped (x .site) t and
     Publish (x .site) p (Update (written x k q l t)) ∷
@@ -64,10 +64,10 @@ serve v (BEGIN s p ks) =
     Done and SetSession s (withPage x (begun (v .heard p) (x .vec) ks)) ∷ []
 serve v (READ s k) =
     let x = v .session in
-    let o = newest (v .setting) (fitsPage k (x .page .vec)) (v .store (partOf (v .setting) k)) in
+    let o = newest (v .setting) (fitsPage k (x .page .vec)) (v .store (partitionOf (v .setting) k)) in
     shown o and SetSession s (withPage x (readOn (x .page) k o)) ∷ []
 serve v (END s) =
     let x = v .session in
     Done and SetSession s (withPage (withVec x (larger (x .vec) (x .page .gathered))) noPage) ∷ []
-serve v (BEAT m p) = Done and cond (beatSends (v .heard p m) (v .clock p)) (Publish m p (Beat (v .clock p)) ∷ []) []
+serve v (BEAT m p) = Done and cond (beatSends (v .heard p m) (v .clock p)) (Publish m p (Heartbeat (v .clock p)) ∷ []) []
 serve v (DELIVER i m p) = Done and taken i m p (v .front)

@@ -1,4 +1,4 @@
--- What the archive holds: sessions, nodes and channels; and what a fresh setup holds. Assumes nothing.
+-- What the archive holds: sessions, nodes and channels; and what a fresh setup holds.
 use Prim.Native.Nat.{ℕ}
 use mathlib.Core.Bool.{Bool, true, false}
 use mathlib.Core.List.{List, []}
@@ -10,7 +10,7 @@ pub record Mark : Type 0 where
   pub key : ℕ
   pub read : Bool
 
--- gathered: "the entrywise largest of what its shown records will raise at END"
+-- R14: gathered is what END will raise the session's vector by
 pub record Page : Type 0 where
   pub isOpen : Bool
   pub vec : Vec
@@ -23,7 +23,7 @@ pub record Session : Type 0 where
   pub vec : Vec
   pub page : Page
 
--- Of the node of site m and partition p: clock m p, heard m p (the stamp up to which it has heard each site) and store m p (its records, first
+-- R12, R13. Of the node of site m and partition p: clock m p, heard m p (the stamp up to which it has heard each site) and store m p (its records, first
 -- stored first). chan i m p: the messages from site i to site m at partition p, front first.
 pub record Net : Type 0 where
   pub setting : Setting
@@ -53,7 +53,7 @@ withVec x v = record { isOpen = x .isOpen; site = x .site; vec = v; page = x .pa
 abbrev pub withPage : Session → Page → Session
 withPage x g = record { isOpen = x .isOpen; site = x .site; vec = x .vec; page = g }
 
--- "makes everything empty with clocks and vectors 0"
+-- R18
 unfoldable pub setup : Setting → State
 setup c = record {
   net = record { setting = c; clock = λ m p. 0; heard = λ m p. zeros; store = λ m p. []; chan = λ i m p. [] };

@@ -1,5 +1,5 @@
--- What a step looks at, which is all that may influence it: the event's session, the nodes of one site, how full their outgoing channels are
--- and, for DELIVER, the channel named. Assumes nothing.
+-- What a step looks at, which is all that may influence it (R73): the event's session, the nodes of one site, how full their outgoing channels are
+-- and, for DELIVER, the channel named.
 use Prim.Native.Nat.{ℕ}
 use mathlib.Core.List.{List, []}
 use lib.ListN.{length}

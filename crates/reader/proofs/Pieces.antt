@@ -1,4 +1,4 @@
--- The piece as the code cuts it out, and its length. Assumes nothing.
+-- The piece as the code cuts it out, and its length.
 use Prim.Native.Nat.{ℕ, _+_, _*_, _-_, _≤_, min}
 use native.Mathlib.Omega.{arith}
 use mathlib.Core.Path.{_≡_, ap}

@@ -1,4 +1,4 @@
--- What the walks of this crate share: the type and the machine value of the event bytes, and what a call leaves when it has come back. Assumes nothing.
+-- What the walks of this crate share: the type and the machine value of the event bytes, and what a call leaves when it has come back.
 use Prim.Native.Nat.{ℕ}
 use mathlib.Core.List.{List, [], _∷_}
 use lib.ListN.{length}

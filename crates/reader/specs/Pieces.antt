@@ -1,4 +1,4 @@
--- Event bytes are taken in pieces of 32, the last as long as it is. Assumes nothing.
+-- Event bytes are taken in pieces of 32, the last as long as it is.
 use Prim.Native.Nat.{ℕ, _*_, _-_, min}
 use mathlib.Core.List.{List}
 use lib.ListN.{length}

@@ -1,5 +1,5 @@
-// The reader of document 01: "It holds the event bytes and its place in them together". The work is in `piece`, on the bytes and a number; `event_of`, whose
-// parameters are plain, serves every caller. In order: the piece, the reader, the event at a place. Assumes nothing.
+// The reader: it holds the event bytes and its place in them together. The work is in `piece`, on the bytes and a number; `event_of`, whose
+// parameters are plain, serves every caller. In order: the piece, the reader, the event at a place.
 ghost use mathlib.Core.Path.{_≡_};
 ghost use Prim.Native.Nat.{min};
 ghost use Rattle.reader.specs.Pieces.{pieceOf};

@@ -7,7 +7,7 @@ use lib.ListN.{length}
 use Rattle.codec.proofs.Le.{length-put}
 use Rattle.vector.specs.Vec.{Vec, zeros}
 use Rattle.vector.proofs.Entries.{length-putVec}
-use Rattle.protocol.specs.Record.{Rec, Msg, Update, Beat}
+use Rattle.protocol.specs.Record.{Rec, Msg, Update, Heartbeat}
 use Rattle.record.specs.RecordBytes.{putFields, putRecord, putMessage}
 
 pub length-putFields : (b : List ℕ) (at key source quality kind : ℕ) (level : ℤ) (stamp : ℕ) (v : Vec) → length (putFields b at key source quality kind level stamp v) ≡ length b
@@ -21,4 +21,4 @@ length-putRecord b at r = length-putFields b at (r .id .key) (r .id .source) (r 
 pub length-putMessage : (b : List ℕ) (at m : ℕ) (x : Msg) → length (putMessage b at m x) ≡ length b
 unfolding putMessage
 length-putMessage b at m (Update r) = length-putRecord b at r
-length-putMessage b at m (Beat t) = length-putFields b at 0 m 0 2 (pos 0) t zeros
+length-putMessage b at m (Heartbeat t) = length-putFields b at 0 m 0 2 (pos 0) t zeros

@@ -15,7 +15,7 @@ use Rattle.codec.proofs.Tests.{cond-elim, every-yes, yes-every}
 use Rattle.codec.proofs.Below.{all-below-at, all-below}
 use Rattle.vector.specs.Vec.{Vec, width, zeros, withEntry, atLeast, larger, raised}
 use Rattle.vector.proofs.Entries.{Short}
-use Rattle.protocol.specs.Record.{Setting, partOf, Rec, Msg, Update, Beat, stampIn}
+use Rattle.protocol.specs.Record.{Setting, partitionOf, Rec, Msg, Update, Heartbeat, stampIn}
 use Rattle.protocol.specs.Needs.{levelLawful}
 use Rattle.record.specs.Fits.{FitsVec, FitsRec, FitsMsg}
 use Rattle.record.specs.Ranges.{fieldTests, recordInRange, timeLawful, vecLawful, recordLawful, messageLawful}
@@ -100,7 +100,7 @@ level-fits (negsuc n) t = let h : n < 50000 = ltb-yes t in omega arith
 
 pub record LawfulRec (c : Setting) (p : ℕ) (r : Rec) : Type 0 where
   pub key : r .id .key < 64
-  pub part : partOf c (r .id .key) ≡ p
+  pub partition : partitionOf c (r .id .key) ≡ p
   pub source : r .id .source < c .sites
   pub quality : r .quality < 3
   pub level : T (levelLawful (r .level))
@@ -111,11 +111,11 @@ module _ (c : Setting) (p : ℕ) (r : Rec) where
   pub record-facts : T (recordLawful c p r) → Short (r .carried) → LawfulRec c p r
   unfolding recordLawful recordInRange timeLawful
   record-facts t short =
-      let both = and-yes (eqb (partOf c (r .id .key)) p) (recordInRange c r) t in
+      let both = and-yes (eqb (partitionOf c (r .id .key)) p) (recordInRange c r) t in
       let (key, (source, (quality, (level, (stamp, (carried, _)))))) = every-yes (fieldTests c r) (both .1) in
       record {
         key = ltb-yes key;
-        part = eqb-yes (both .0);
+        partition = eqb-yes (both .0);
         source = ltb-yes source;
         quality = ltb-yes quality;
         level = level;
@@ -126,7 +126,7 @@ module _ (c : Setting) (p : ℕ) (r : Rec) where
   pub record-lawful : LawfulRec c p r → T (recordLawful c p r)
   unfolding recordLawful recordInRange timeLawful
   record-lawful R =
-      yes-and (eqb (partOf c (r .id .key)) p) (recordInRange c r) (yes-eqb (R .part))
+      yes-and (eqb (partitionOf c (r .id .key)) p) (recordInRange c r) (yes-eqb (R .partition))
       (yes-every (fieldTests c r)
       (yes-ltb (R .key), (yes-ltb (R .source), (yes-ltb (R .quality), (R .level, (yes-ltb (R .stamp), (vec-lawful c (r .carried) (R .carried), tt)))))))
 
@@ -144,30 +144,30 @@ module _ (c : Setting) (p : ℕ) (r : Rec) where
 
 abbrev pub LawfulMsg : Setting → (i p : ℕ) → Msg → Type 0
 LawfulMsg c i p (Update r) = (r .id .source ≡ i) × LawfulRec c p r
-LawfulMsg c i p (Beat t) = t < 2 ^ 48
+LawfulMsg c i p (Heartbeat t) = t < 2 ^ 48
 
 -- the vector that a message carries, if it does, has no entry beyond the width
 abbrev pub ShortMsg : Msg → Type 0
 ShortMsg (Update r) = Short (r .carried)
-ShortMsg (Beat t) = Unit {0}
+ShortMsg (Heartbeat t) = Unit {0}
 
 module _ (c : Setting) (i p : ℕ) where
   pub message-facts : (x : Msg) → T (messageLawful c i p x) → ShortMsg x → LawfulMsg c i p x
   unfolding messageLawful timeLawful
   message-facts (Update r) t short =
       let a = and-yes (eqb (r .id .source) i) (recordLawful c p r) t in (eqb-yes (a .0), record-facts c p r (a .1) short)
-  message-facts (Beat s) t short = ltb-yes t
+  message-facts (Heartbeat s) t short = ltb-yes t
 
   pub message-lawful : (x : Msg) → LawfulMsg c i p x → T (messageLawful c i p x)
   unfolding messageLawful timeLawful
   message-lawful (Update r) X = yes-and (eqb (r .id .source) i) (recordLawful c p r) (yes-eqb (X .0)) (record-lawful c p r (X .1))
-  message-lawful (Beat s) X = yes-ltb X
+  message-lawful (Heartbeat s) X = yes-ltb X
 
   pub message-fits : (x : Msg) → c .sites ≤ 4 → LawfulMsg c i p x → FitsMsg x
   message-fits (Update r) few X = record-fits c p r few (X .1)
-  message-fits (Beat s) few X = time-fits s X
+  message-fits (Heartbeat s) few X = time-fits s X
 
   pub stamp-lawful : (x : Msg) → LawfulMsg c i p x → stampIn x < 2 ^ 48
   unfolding stampIn
   stamp-lawful (Update r) X = X .1 .stamp
-  stamp-lawful (Beat s) X = X
+  stamp-lawful (Heartbeat s) X = X

@@ -1,5 +1,5 @@
 -- The laws of 48 bytes. In order: equal bytes say the same record and message; the bytes as a run of fields; a load elsewhere; what stands where
--- they were put. Assumes nothing.
+-- they were put.
 use Prim.Native.Nat.{ℕ, _+_, _*_, _≤_, _<_}
 use native.Mathlib.Nat.{add-zero}
 use native.Mathlib.Omega.{arith}
@@ -19,7 +19,7 @@ use Rattle.codec.proofs.Level.{levelFrom-bitsOf, bitsOf-lt}
 use Rattle.vector.specs.Vec.{width, zeros}
 use Rattle.vector.specs.Entries.{loadVec, putVec}
 use Rattle.vector.proofs.Entries.{load-putVec-other, loadVec-putVec}
-use Rattle.protocol.specs.Record.{Rec, Msg, Update, Beat}
+use Rattle.protocol.specs.Record.{Rec, Msg, Update, Heartbeat}
 use Rattle.record.specs.RecordBytes.{recordAt, messageAt, putFields, putRecord, putMessage}
 use Rattle.record.specs.Fits.{FitsRec, FitsMsg}
 
@@ -59,7 +59,7 @@ message-ext s t at e =
     let kind = e 1 (at + 3) (omega arith) (omega arith) in
     let stamp = e 8 (at + 8) (omega arith) (omega arith) in
     let rec = record-ext s t at e in
-    λ z. cond (eqb (kind z) 1) (Update (rec z)) (Beat (stamp z))
+    λ z. cond (eqb (kind z) 1) (Update (rec z)) (Heartbeat (stamp z))
 
 -- ---- a record's bytes, of either kind, as a run of fields with the vector behind
 
@@ -143,7 +143,7 @@ load-putRecord-other b at r = load-putKind-other b at 1 r
 pub load-putMessage-other : (b : List ℕ) (at m : ℕ) (x : Msg) (w j : ℕ) → Apart j w at 48 → load w (putMessage b at m x) j ≡ load w b j
 unfolding putMessage
 load-putMessage-other b at m (Update r) = load-putRecord-other b at r
-load-putMessage-other b at m (Beat t) = load-putKind-other b at 2 (beat m t)
+load-putMessage-other b at m (Heartbeat t) = load-putKind-other b at 2 (beat m t)
 
 -- a record and a message elsewhere
 
@@ -157,5 +157,5 @@ pub message-putMessage : (b : List ℕ) (at m : ℕ) (x : Msg) → at + 48 ≤ l
 unfolding putMessage messageAt putRecord
 message-putMessage b at m (Update r) fit h small =
     rw (kind-put b at 1 r fit small (omega arith)) (ap Update (record-putKind b at 1 r fit small (omega arith)))
-message-putMessage b at m (Beat t) fit h small =
-    rw (kind-put b at 2 (beat m t) fit (beat-fits m t h small) (omega arith)) (ap Beat (stamp-put b at 2 (beat m t) fit (beat-fits m t h small) (omega arith)))
+message-putMessage b at m (Heartbeat t) fit h small =
+    rw (kind-put b at 2 (beat m t) fit (beat-fits m t h small) (omega arith)) (ap Heartbeat (stamp-put b at 2 (beat m t) fit (beat-fits m t h small) (omega arith)))

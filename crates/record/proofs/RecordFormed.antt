@@ -1,5 +1,5 @@
 -- Records and messages in well-formed bytes. In order: equal bytes are formed alike, and what is put is formed where the value is lawful: a record, a
--- heartbeat's zeros, a message. Assumes nothing.
+-- heartbeat's zeros, a message.
 use Prim.Native.Nat.{ℕ, _+_, _*_, _^_, _≤_, _<_, _-_}
 use native.Mathlib.Decide.{decLt}
 use native.Mathlib.Omega.{arith}
@@ -20,12 +20,12 @@ use Rattle.codec.proofs.Below.{all-below}
 use Rattle.vector.specs.Vec.{width, zeros}
 use Rattle.vector.specs.Entries.{loadVec}
 use Rattle.vector.proofs.Entries.{loadVec-beyond}
-use Rattle.protocol.specs.Record.{Setting, Rec, Msg, Update, Beat}
+use Rattle.protocol.specs.Record.{Setting, Rec, Msg, Update, Heartbeat}
 use Rattle.protocol.specs.Needs.{levelLawful}
 use Rattle.record.specs.RecordBytes.{recordAt, messageAt, putRecord, putMessage}
 use Rattle.record.specs.Fits.{FitsRec}
 use Rattle.record.specs.Ranges.{recordLawful, messageLawful}
-use Rattle.record.specs.RecordFormed.{recordFormed, beatFormed, messageFormed}
+use Rattle.record.specs.RecordFormed.{recordFormed, heartbeatFormed, messageFormed}
 use Rattle.record.proofs.RecordBytes.{Same, loadVec-ext, record-ext, message-ext, putKind, kind-put, record-putKind, record-putRecord, message-putMessage}
 use Rattle.record.proofs.Ranges.{time-fits, vec-fits, zeros-lawful, level-fits, LawfulRec, record-lawful, record-fits, LawfulMsg, message-lawful, message-fits, ShortMsg, record-facts, message-facts}
 
@@ -38,9 +38,9 @@ record-formed-ext c p s t at e =
     let rec = record-ext s t at e in
     λ z. eqb (kind z) 1 && recordLawful c p (rec z)
 
-beat-formed-ext : (i : ℕ) (s t : List ℕ) (at : ℕ) → Same s t at → beatFormed i s at ≡ beatFormed i t at
-unfolding beatFormed
-beat-formed-ext i s t at e =
+heartbeat-formed-ext : (i : ℕ) (s t : List ℕ) (at : ℕ) → Same s t at → heartbeatFormed i s at ≡ heartbeatFormed i t at
+unfolding heartbeatFormed
+heartbeat-formed-ext i s t at e =
     let key = e 1 at (omega arith) (omega arith) in
     let source = e 1 (at + 1) (omega arith) (omega arith) in
     let quality = e 1 (at + 2) (omega arith) (omega arith) in
@@ -52,7 +52,7 @@ pub message-formed-ext : (c : Setting) (i p : ℕ) (s t : List ℕ) (at : ℕ) �
 unfolding messageFormed
 message-formed-ext c i p s t at e =
     let kind = e 1 (at + 3) (omega arith) (omega arith) in
-    let beat = beat-formed-ext i s t at e in
+    let beat = heartbeat-formed-ext i s t at e in
     let msg = message-ext s t at e in
     λ z. (eqb (kind z) 1 || (eqb (kind z) 2 && beat z)) && messageLawful c i p (msg z)
 
@@ -77,9 +77,9 @@ abbrev beat : (i t : ℕ) → Rec
 beat i t = record { id = record { key = 0; source = i; stamp = t }; quality = 0; level = pos 0; carried = zeros }
 
 -- the bytes that say the fields of a heartbeat are formed as one
-beat-formed : (i t : ℕ) (b : List ℕ) (at : ℕ) → recordAt b at ≡ beat i t → T (beatFormed i b at)
-unfolding beatFormed recordAt zeros
-beat-formed i t b at e =
+heartbeat-formed : (i t : ℕ) (b : List ℕ) (at : ℕ) → recordAt b at ≡ beat i t → T (heartbeatFormed i b at)
+unfolding heartbeatFormed recordAt zeros
+heartbeat-formed i t b at e =
     yes-every
     (eqb (load 1 b at) 0 ∷ eqb (load 1 b (at + 1)) i ∷ eqb (load 1 b (at + 2)) 0 ∷ eqb (load 4 b (at + 4)) 0 ∷ allBelow width (λ k. eqb (loadVec b (at + 16) k) 0) ∷ []) (
       yes-eqb (ap (λ r. r .id .key) e),
@@ -104,19 +104,19 @@ beat-fits c i t few h g = record {
 
 module _ (c : Setting) (few : c .sites ≤ 4) (i p : ℕ) (h : i < 4) (b : List ℕ) (at : ℕ) (fit : at + 48 ≤ length b) where
   abbrev kindFormed : Msg → Bool
-  kindFormed x = let u = putMessage b at i x in eqb (load 1 u (at + 3)) 1 || (eqb (load 1 u (at + 3)) 2 && beatFormed i u at)
+  kindFormed x = let u = putMessage b at i x in eqb (load 1 u (at + 3)) 1 || (eqb (load 1 u (at + 3)) 2 && heartbeatFormed i u at)
 
   kind-formed : (x : Msg) → LawfulMsg c i p x → T (kindFormed x)
   unfolding putMessage putRecord
   kind-formed (Update r) ok =
       let u = putKind b at 1 r in
-      yes-or-l (eqb (load 1 u (at + 3)) 1) (eqb (load 1 u (at + 3)) 2 && beatFormed i u at) (yes-eqb (kind-put b at 1 r fit (record-fits c p r few (ok .1)) (omega arith)))
-  kind-formed (Beat t) ok =
+      yes-or-l (eqb (load 1 u (at + 3)) 1) (eqb (load 1 u (at + 3)) 2 && heartbeatFormed i u at) (yes-eqb (kind-put b at 1 r fit (record-fits c p r few (ok .1)) (omega arith)))
+  kind-formed (Heartbeat t) ok =
       let u = putKind b at 2 (beat i t) in
       let small = beat-fits c i t few h ok in
-      yes-or-r (eqb (load 1 u (at + 3)) 1) (eqb (load 1 u (at + 3)) 2 && beatFormed i u at)
-      (yes-and (eqb (load 1 u (at + 3)) 2) (beatFormed i u at) (yes-eqb (kind-put b at 2 (beat i t) fit small (omega arith)))
-      (beat-formed i t u at (record-putKind b at 2 (beat i t) fit small (omega arith))))
+      yes-or-r (eqb (load 1 u (at + 3)) 1) (eqb (load 1 u (at + 3)) 2 && heartbeatFormed i u at)
+      (yes-and (eqb (load 1 u (at + 3)) 2) (heartbeatFormed i u at) (yes-eqb (kind-put b at 2 (beat i t) fit small (omega arith)))
+      (heartbeat-formed i t u at (record-putKind b at 2 (beat i t) fit small (omega arith))))
 
   pub message-formed-put : (x : Msg) → LawfulMsg c i p x → T (messageFormed c i p (putMessage b at i x) at)
   unfolding messageFormed
@@ -139,4 +139,4 @@ pub message-read : (c : Setting) (i p : ℕ) (b : List ℕ) (at : ℕ) → T (me
 unfolding messageFormed
 message-read c i p b at t =
     message-facts c i p (messageAt b at)
-    (and-yes (eqb (load 1 b (at + 3)) 1 || (eqb (load 1 b (at + 3)) 2 && beatFormed i b at)) (messageLawful c i p (messageAt b at)) t .1) (short-read b at)
+    (and-yes (eqb (load 1 b (at + 3)) 1 || (eqb (load 1 b (at + 3)) 2 && heartbeatFormed i b at)) (messageLawful c i p (messageAt b at)) t .1) (short-read b at)

@@ -4,7 +4,7 @@ use mathlib.Core.Path.{_≡_}
 use Rattle.codec.specs.Le.{span}
 use Rattle.codec.specs.Level.{FitsLevel}
 use Rattle.vector.specs.Vec.{Vec, width}
-use Rattle.protocol.specs.Record.{Rec, Msg, Update, Beat}
+use Rattle.protocol.specs.Record.{Rec, Msg, Update, Heartbeat}
 
 pub record FitsVec (v : Vec) : Type 0 where
   pub below : (i : ℕ) → v i < span 8
@@ -20,4 +20,4 @@ pub record FitsRec (r : Rec) : Type 0 where
 
 abbrev pub FitsMsg : Msg → Type 0
 FitsMsg (Update r) = FitsRec r
-FitsMsg (Beat t) = t < span 8
+FitsMsg (Heartbeat t) = t < span 8

@@ -1,7 +1,7 @@
 -- The records and messages that the code holds, as the protocol's.
 use Rattle.vector.specs.Entries.{entry}
 use Rattle.vector.specs.declared.Vector.{Vector}
-use Rattle.protocol.specs.Record.{Rec, Msg, Update, Beat}
+use Rattle.protocol.specs.Record.{Rec, Msg, Update, Heartbeat}
 use Rattle.protocol.specs.State as State
 use Rattle.record.specs.declared.Record.{Record}
 use Rattle.record.specs.declared.Message.{Message}
@@ -14,7 +14,7 @@ asRecord r = record { id = record { key = r .key; source = r .source; stamp = r 
 unfoldable pub messageOf : Message → Vector → Msg
 messageOf (Message.Update key source quality level stamp) v =
     Update (record { id = record { key = key; source = source; stamp = stamp }; quality = quality; level = level; carried = entry (v .e) })
-messageOf (Message.Heartbeat stamp) v = Beat stamp
+messageOf (Message.Heartbeat stamp) v = Heartbeat stamp
 
 unfoldable pub asMessage : Letter → Msg
 asMessage x = messageOf (x .message) (x .carried)

@@ -12,13 +12,13 @@ use Rattle.protocol.specs.Record.{Setting}
 use Rattle.record.specs.RecordBytes.{recordAt, messageAt}
 use Rattle.record.specs.Ranges.{recordLawful, messageLawful}
 
--- a record in use of partition p: "A stored record has kind 1"
+-- R26: a record in use of partition p has kind 1
 unfoldable pub recordFormed : Setting → (p : ℕ) → List ℕ → (at : ℕ) → Bool
 recordFormed c p n at = eqb (load 1 n (at + 3)) 1 && recordLawful c p (recordAt n at)
 
--- "A heartbeat has key, quality, level and vector zero", and its channel's source
-unfoldable pub beatFormed : (i : ℕ) → List ℕ → (at : ℕ) → Bool
-beatFormed i b at = every
+-- R27: a heartbeat's zeros, and its channel's source
+unfoldable pub heartbeatFormed : (i : ℕ) → List ℕ → (at : ℕ) → Bool
+heartbeatFormed i b at = every
     (eqb (load 1 b at) 0
     ∷ eqb (load 1 b (at + 1)) i
     ∷ eqb (load 1 b (at + 2)) 0
@@ -26,6 +26,6 @@ beatFormed i b at = every
     ∷ allBelow width (λ e. eqb (loadVec b (at + 16) e) 0)
     ∷ [])
 
--- a message in use of the channel from site i at partition p: "a lawful kind"
+-- R27: a message in use of the channel from site i at partition p has kind 1 or 2
 unfoldable pub messageFormed : Setting → (i p : ℕ) → List ℕ → (at : ℕ) → Bool
-messageFormed c i p b at = (eqb (load 1 b (at + 3)) 1 || (eqb (load 1 b (at + 3)) 2 && beatFormed i b at)) && messageLawful c i p (messageAt b at)
+messageFormed c i p b at = (eqb (load 1 b (at + 3)) 1 || (eqb (load 1 b (at + 3)) 2 && heartbeatFormed i b at)) && messageLawful c i p (messageAt b at)

@@ -7,14 +7,14 @@ ghost use lib.ListN.{length};
 ghost use Rattle.protocol.specs.Record.{Update};
 ghost use Rattle.record.specs.RecordBytes.{recordAt};
 ghost use Rattle.record.specs.Ranges.{recordInRange, recordLawful, messageLawful};
-ghost use Rattle.record.specs.RecordFormed.{recordFormed, beatFormed, messageFormed};
+ghost use Rattle.record.specs.RecordFormed.{recordFormed, heartbeatFormed, messageFormed};
 use crate::times;
 use protocol::limits;
 
 // The fields of the record at `at`. Each is loaded where it is tested, so that a lawful one costs one comparison.
 pub fn record_in_range(b: &[u8], at: usize, sites: u8) -> bool
     requires { ⌜ at + 48 ≤ length (now b) ⌝ }
-    ensures { λ r. ⌜ ((parts : ℕ) → r ≡ recordInRange (record { sites = sites; parts = parts }) (recordAt (now (b .entry)) at)) ⌝ }
+    ensures { λ r. ⌜ ((partitions : ℕ) → r ≡ recordInRange (record { sites = sites; partitions = partitions }) (recordAt (now (b .entry)) at)) ⌝ }
 {
     if 64 <= codec::load_u8(b, at) {
         return false;
@@ -35,43 +35,43 @@ pub fn record_in_range(b: &[u8], at: usize, sites: u8) -> bool
 }
 
 // The record at `at`, of partition p.
-pub fn record_lawful(b: &[u8], at: usize, sites: u8, parts: u8, p: u8) -> bool
-    requires { ⌜ (at + 48 ≤ length (now b)) × (0 < parts) ⌝ }
-    ensures { λ r. ⌜ r ≡ recordLawful (record { sites = sites; parts = parts }) p (recordAt (now (b .entry)) at) ⌝ }
+pub fn record_lawful(b: &[u8], at: usize, sites: u8, partitions: u8, p: u8) -> bool
+    requires { ⌜ (at + 48 ≤ length (now b)) × (0 < partitions) ⌝ }
+    ensures { λ r. ⌜ r ≡ recordLawful (record { sites = sites; partitions = partitions }) p (recordAt (now (b .entry)) at) ⌝ }
 {
-    if limits::partition_of(codec::load_u8(b, at), parts) != p {
+    if limits::partition_of(codec::load_u8(b, at), partitions) != p {
         return false;
     }
     record_in_range(b, at, sites)
 }
 
 // "A stored record has kind 1"
-pub fn record_formed(n: &[u8], at: usize, sites: u8, parts: u8, p: u8) -> bool
-    requires { ⌜ (at + 48 ≤ length (now n)) × (0 < parts) ⌝ }
-    ensures { λ r. ⌜ r ≡ recordFormed (record { sites = sites; parts = parts }) p (now (n .entry)) at ⌝ }
+pub fn record_formed(n: &[u8], at: usize, sites: u8, partitions: u8, p: u8) -> bool
+    requires { ⌜ (at + 48 ≤ length (now n)) × (0 < partitions) ⌝ }
+    ensures { λ r. ⌜ r ≡ recordFormed (record { sites = sites; partitions = partitions }) p (now (n .entry)) at ⌝ }
 {
     if codec::load_u8(n, at + 3) != 1 {
         return false;
     }
-    record_lawful(n, at, sites, parts, p)
+    record_lawful(n, at, sites, partitions, p)
 }
 
 // What stands at `at`, as an update of site i.
-pub fn update_formed(b: &[u8], at: usize, sites: u8, parts: u8, i: u8, p: u8) -> bool
-    requires { ⌜ (at + 48 ≤ length (now b)) × (0 < parts) ⌝ }
-    ensures { λ r. ⌜ r ≡ messageLawful (record { sites = sites; parts = parts }) i p (Update (recordAt (now (b .entry)) at)) ⌝ }
+pub fn update_formed(b: &[u8], at: usize, sites: u8, partitions: u8, i: u8, p: u8) -> bool
+    requires { ⌜ (at + 48 ≤ length (now b)) × (0 < partitions) ⌝ }
+    ensures { λ r. ⌜ r ≡ messageLawful (record { sites = sites; partitions = partitions }) i p (Update (recordAt (now (b .entry)) at)) ⌝ }
 {
     if codec::load_u8(b, at + 1) != i {
         return false;
     }
-    record_lawful(b, at, sites, parts, p)
+    record_lawful(b, at, sites, partitions, p)
 }
 
 // "A heartbeat has key, quality, level and vector zero". Wide numbers are compared with the key, which is 0: with a plain 0 they would be
 // compared byte by byte.
-pub fn beat_formed(b: &[u8], at: usize, i: u8) -> bool
+pub fn heartbeat_formed(b: &[u8], at: usize, i: u8) -> bool
     requires { ⌜ at + 48 ≤ length (now b) ⌝ }
-    ensures { λ r. ⌜ r ≡ beatFormed i (now (b .entry)) at ⌝ }
+    ensures { λ r. ⌜ r ≡ heartbeatFormed i (now (b .entry)) at ⌝ }
 {
     let key = codec::load_u8(b, at);
     let source = codec::load_u8(b, at + 1);
@@ -84,16 +84,16 @@ pub fn beat_formed(b: &[u8], at: usize, i: u8) -> bool
 }
 
 // A message of the channel from site i at partition p: kind 1 is an update, 2 a heartbeat.
-pub fn message_formed(b: &[u8], at: usize, sites: u8, parts: u8, i: u8, p: u8) -> bool
-    requires { ⌜ (at + 48 ≤ length (now b)) × (0 < parts) ⌝ }
-    ensures { λ r. ⌜ r ≡ messageFormed (record { sites = sites; parts = parts }) i p (now (b .entry)) at ⌝ }
+pub fn message_formed(b: &[u8], at: usize, sites: u8, partitions: u8, i: u8, p: u8) -> bool
+    requires { ⌜ (at + 48 ≤ length (now b)) × (0 < partitions) ⌝ }
+    ensures { λ r. ⌜ r ≡ messageFormed (record { sites = sites; partitions = partitions }) i p (now (b .entry)) at ⌝ }
 {
     let kind = codec::load_u8(b, at + 3);
     if kind == 1 {
-        return update_formed(b, at, sites, parts, i, p);
+        return update_formed(b, at, sites, partitions, i, p);
     }
     if kind != 2 {
         return false;
     }
-    beat_formed(b, at, i) & times::time_lawful(codec::load_u64(b, at + 8))
+    heartbeat_formed(b, at, i) & times::time_lawful(codec::load_u64(b, at + 8))
 }

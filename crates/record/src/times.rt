@@ -1,5 +1,5 @@
 // "clocks, vectors and stamps are within the time limit and entries of absent sites are 0". In order: a time, an entry and its limit, a vector
-// by value and in bytes, and one without an entry above a number. Assumes nothing.
+// by value and in bytes, and one without an entry above a number.
 ghost use mathlib.Core.Path.{_≡_};
 ghost use mathlib.Core.Bool.{cond};
 ghost use Prim.Native.Nat.{ℕ, _+_, _≤_};
@@ -36,7 +36,7 @@ pub fn entry_lawful(x: u64, i: usize, sites: u8) -> bool
 
 // Of the setting only the number of sites is asked.
 pub fn vector_lawful(v: Vector, sites: u8) -> bool
-    ensures { λ r. ⌜ ((parts : ℕ) → r ≡ vecLawful (record { sites = sites; parts = parts }) (entry (v .e))) ⌝ }
+    ensures { λ r. ⌜ ((partitions : ℕ) → r ≡ vecLawful (record { sites = sites; partitions = partitions }) (entry (v .e))) ⌝ }
 {
     let e = v.e;
     let mut i = 0;
@@ -52,7 +52,7 @@ pub fn vector_lawful(v: Vector, sites: u8) -> bool
 // The vector at `at`.
 pub fn vector_formed(b: &[u8], at: usize, sites: u8) -> bool
     requires { ⌜ at + 32 ≤ length (now b) ⌝ }
-    ensures { λ r. ⌜ ((parts : ℕ) → r ≡ vecLawful (record { sites = sites; parts = parts }) (loadVec (now (b .entry)) at)) ⌝ }
+    ensures { λ r. ⌜ ((partitions : ℕ) → r ≡ vecLawful (record { sites = sites; partitions = partitions }) (loadVec (now (b .entry)) at)) ⌝ }
 {
     vector_lawful(vector::load_vector(b, at), sites)
 }

@@ -1,4 +1,4 @@
--- What a search gives, as the protocol's. Assumes nothing.
+-- What a search gives, as the protocol's.
 use Prim.Native.Nat.{ℕ}
 use mathlib.Core.Bool.{cond, Bool, not, _&&_, _||_}
 use mathlib.Core.Option.{Option, some, none}

@@ -1,5 +1,5 @@
 // The search for the newest record of a node that fits a read. In order: whether a record fits, which of two is newer, one more record beside the
-// best so far, all, and what is found. A place is counted from 1, and 0 is none. Nothing of a record is read but what these tests ask. Assumes nothing.
+// best so far, all, and what is found. A place is counted from 1, and 0 is none. Nothing of a record is read but what these tests ask.
 ghost use mathlib.Core.Path.{_≡_};
 ghost use Prim.Native.Nat.{ℕ, _+_, _≤_, _<_};
 ghost use lib.ListN.{length};

@@ -1,5 +1,5 @@
 -- What carrying a decision out asks, from what fits: a session's marks. And the changes of an effect that is
--- known. Assumes nothing.
+-- known.
 use Prim.Native.Nat.{ℕ, _≤_}
 use native.Mathlib.Omega.{arith}
 use mathlib.Core.Path.{_≡_, ap, subst}

@@ -1,4 +1,4 @@
--- What a dispatcher on the event's code knows of the fields that it hands on: each used field is in its range. Assumes nothing.
+-- What a dispatcher on the event's code knows of the fields that it hands on: each used field is in its range.
 use Prim.Native.Nat.{ℕ, _-_, _≤_, _<_}
 use native.Mathlib.Omega.{arith}
 use mathlib.Core.Path.{_≡_, ap}

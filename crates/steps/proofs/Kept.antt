@@ -15,7 +15,7 @@ use Rattle.event.specs.Fields.{unusedZero}
 use Rattle.lawful.proofs.Steps.{Sound, step-sound}
 use Rattle.reader.specs.Pieces.{pieceOf}
 use Rattle.steps.specs.Step.{Called, gives, refusedWith, refused, stepOn}
-use Rattle.steps.specs.Run.{putAnswer, ran, turned, runBy, pieceCall, turnedAway}
+use Rattle.steps.specs.Run.{putAnswer, ran, pieceAnswered, runBy, pieceCall, pieceRefused}
 
 module _ (t e : List ℕ) where
   pub piece-whole : length e ≡ 32 → pieceCall t e ≡ stepOn t e
@@ -36,9 +36,9 @@ module _ (t e : List ℕ) where
   unfolding pieceCall
   piece-keeps n S = cond-elim (λ (c : Called). Sound n (c .table)) (eqb (length e) 32) (λ a. step-keeps n S) (λ a. S)
 
-pub turned-by : (i : ℕ) (t es b e u w : List ℕ) (a : Answer) → e ≡ pieceOf es i → gives a u ≡ pieceCall t e → w ≡ putAnswer b (16 * i) a → ran u w ≡ turned pieceCall i t es b
-unfolding turned
-turned-by i t es b e u w a q c z =
+pub piece-answered : (i : ℕ) (t es b e u w : List ℕ) (a : Answer) → e ≡ pieceOf es i → gives a u ≡ pieceCall t e → w ≡ putAnswer b (16 * i) a → ran u w ≡ pieceAnswered pieceCall i t es b
+unfolding pieceAnswered
+piece-answered i t es b e u w a q c z =
     let d : gives a u ≡ pieceCall t (pieceOf es i) = c ∙ ap (pieceCall t) q in
     ap (ran u) z ∙ ap (λ r. ran (r .table) (putAnswer b (16 * i) (r .answer))) d
 
@@ -49,17 +49,17 @@ module _ (call : (table event : List ℕ) → Called) (t es b : List ℕ) where
   unfolding runBy
   run-none = refl
 
-  pub run-step : (i : ℕ) (u v u′ v′ : List ℕ) → ran u v ≡ runBy call i t es b → ran u′ v′ ≡ turned call i u es v → ran u′ v′ ≡ runBy call (i + 1) t es b
+  pub run-step : (i : ℕ) (u v u′ v′ : List ℕ) → ran u v ≡ runBy call i t es b → ran u′ v′ ≡ pieceAnswered call i u es v → ran u′ v′ ≡ runBy call (i + 1) t es b
   unfolding runBy
-  run-step i u v u′ v′ r s = rw (add-one i) (s ∙ ap (λ x. turned call i (x .table) es (x .answers)) r)
+  run-step i u v u′ v′ r s = rw (add-one i) (s ∙ ap (λ x. pieceAnswered call i (x .table) es (x .answers)) r)
 
-pub turned-sound : (n : ℕ) (t es b : List ℕ) (i : ℕ) (u w : List ℕ) → ran u w ≡ turned pieceCall i t es b → Sound n t → Sound n u
-unfolding turned
-turned-sound n t es b i u w r S = subst (Sound n) (sym (ap (λ x. x .table) r)) (piece-keeps t (pieceOf es i) n S)
+pub answered-sound : (n : ℕ) (t es b : List ℕ) (i : ℕ) (u w : List ℕ) → ran u w ≡ pieceAnswered pieceCall i t es b → Sound n t → Sound n u
+unfolding pieceAnswered
+answered-sound n t es b i u w r S = subst (Sound n) (sym (ap (λ x. x .table) r)) (piece-keeps t (pieceOf es i) n S)
 
 -- ---- a table that is refused
 
 pub away-by : (n i : ℕ) (es b e w : List ℕ) (a : Answer) → e ≡ pieceOf es i → a ≡ refusedWith (cond (eqb (length e) 32) n 23)
-    → w ≡ putAnswer b (16 * i) a → (t : List ℕ) → ran t w ≡ turned (turnedAway n) i t es b
-unfolding turned turnedAway
+    → w ≡ putAnswer b (16 * i) a → (t : List ℕ) → ran t w ≡ pieceAnswered (pieceRefused n) i t es b
+unfolding pieceAnswered pieceRefused
 away-by n i es b e w a q r z t = ap (ran t) (z ∙ ap (putAnswer b (16 * i)) (r ∙ ap (λ x. refusedWith (cond (eqb (length x) 32) n 23)) q))

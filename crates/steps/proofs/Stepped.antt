@@ -1,5 +1,5 @@
 -- A step on a well-formed table by its tests: an event of which a field is not lawful is refused with 11, and of any other the protocol decides with
--- its ranges met. Assumes nothing.
+-- its ranges met.
 use Prim.Native.Nat.{ℕ}
 use mathlib.Core.Path.{_≡_, refl, sym, ap, subst, _∙_}
 use mathlib.Core.Logic.{_⊎_, inl, inr}
@@ -74,10 +74,10 @@ step-unmet S e t = step-out-of-range S e (λ m. T-not (metBy S e) (is-met (range
 
 -- ---- the code's tests
 
-pub test-by : (t e : List ℕ) (sites parts : ℕ) → sites ≡ load 1 t 0 → parts ≡ load 1 t 1 →
-    (unusedZero e && met (ranges (record { sites = sites; parts = parts }) (eventOf e))) ≡ fieldsTest t e
+pub test-by : (t e : List ℕ) (sites partitions : ℕ) → sites ≡ load 1 t 0 → partitions ≡ load 1 t 1 →
+    (unusedZero e && met (ranges (record { sites = sites; partitions = partitions }) (eventOf e))) ≡ fieldsTest t e
 unfolding settingIn
-test-by t e sites parts a b = λ i. unusedZero e && met (ranges (record { sites = a i; parts = b i }) (eventOf e))
+test-by t e sites partitions a b = λ i. unusedZero e && met (ranges (record { sites = a i; partitions = b i }) (eventOf e))
 
 pub code-unlawful : (t e : List ℕ) → T (not (codeLawful e)) → stepOn t e ≡ refused 10 t
 unfolding stepOn

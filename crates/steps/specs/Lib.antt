@@ -1,4 +1,5 @@
--- What a step on a well-formed table gives; when a message that a change takes off stands there; and many steps.
+-- What a step on a well-formed table gives, and many steps; that a message which a change takes off a channel waits there.
 pub mod Step
-pub mod Waits
 pub mod Run
+-- ---- below the line: words of contracts inside and of proofs; nobody has to believe them
+pub mod Waits

@@ -1,4 +1,4 @@
--- Many events at once, by any call for one of them: the pieces that the reader gives, and each answer in 16 bytes. Assumes nothing.
+-- Many events at once, by any call for one of them: the pieces that the reader gives, and each answer in 16 bytes.
 use Prim.Native.Nat.{ℕ, zero, suc, _+_, _*_}
 use mathlib.Core.Bool.{cond}
 use mathlib.Core.List.{List}
@@ -24,18 +24,18 @@ abbrev pub ran : (table answers : List ℕ) → Ran
 ran t b = record { table = t; answers = b }
 
 -- piece i by the call, and its answer
-unfoldable pub turned : ((table event : List ℕ) → Called) → ℕ → (table events answers : List ℕ) → Ran
-turned call i t es b = let c = call t (pieceOf es i) in ran (c .table) (putAnswer b (16 * i) (c .answer))
+unfoldable pub pieceAnswered : ((table event : List ℕ) → Called) → ℕ → (table events answers : List ℕ) → Ran
+pieceAnswered call i t es b = let c = call t (pieceOf es i) in ran (c .table) (putAnswer b (16 * i) (c .answer))
 
 -- the first n pieces, one after the other
 unfoldable pub runBy : ((table event : List ℕ) → Called) → ℕ → (table events answers : List ℕ) → Ran
 runBy call zero t es b = ran t b
-runBy call (suc n) t es b = let r = runBy call n t es b in turned call n (r .table) es (r .answers)
+runBy call (suc n) t es b = let r = runBy call n t es b in pieceAnswered call n (r .table) es (r .answers)
 
 -- a piece on a well-formed table
 unfoldable pub pieceCall : (table event : List ℕ) → Called
 pieceCall t e = need (eqb (length e) 32) 23 t (stepOn t e)
 
 -- a piece on a table that is refused with the number
-unfoldable pub turnedAway : ℕ → (table event : List ℕ) → Called
-turnedAway n t e = refused (cond (eqb (length e) 32) n 23) t
+unfoldable pub pieceRefused : ℕ → (table event : List ℕ) → Called
+pieceRefused n t e = refused (cond (eqb (length e) 32) n 23) t

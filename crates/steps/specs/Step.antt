@@ -1,5 +1,5 @@
--- A call's answer and the table's bytes afterwards, and a step on a well-formed table: 10, 11 for what is not used, then the protocol's. Assumes
--- nothing.
+-- A call's answer and the table's bytes afterwards, and a step on a well-formed table: refusal 10, refusal 11 for an unused field that is not zero, then the
+-- protocol's answer.
 use Prim.Native.Nat.{ℕ}
 use mathlib.Core.Bool.{Bool, cond, _&&_}
 use mathlib.Core.List.{List}

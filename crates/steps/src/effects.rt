@@ -1,5 +1,4 @@
 // A decision carried out: the changes of its effect, on the table's bytes. It writes what the decision holds, and reads nothing to decide.
-//
 ghost use mathlib.Core.Path.{_≡_};
 ghost use Prim.Native.Nat.{_≤_};
 ghost use Rattle.codec.specs.Le.{load};

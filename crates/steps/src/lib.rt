@@ -58,8 +58,8 @@ pub fn step(t: &mut [u8], e: &[u8]) -> Answer
         return pieces::refused(10);
     }
     let sites = codec::load_u8(t, 0);
-    let parts = codec::load_u8(t, 1);
-    if !event::fields_lawful(e, sites, parts) {
+    let partitions = codec::load_u8(t, 1);
+    if !event::fields_lawful(e, sites, partitions) {
         return pieces::refused(11);
     }
     let d = decide(t, e);

@@ -1,4 +1,4 @@
-// Answers: a refusal by its number, and any answer in 16 bytes. Assumes nothing.
+// Answers: a refusal by its number, and any answer in 16 bytes.
 ghost use mathlib.Core.Path.{_≡_};
 ghost use Prim.Native.Nat.{_+_, _≤_};
 ghost use lib.ListN.{length};

@@ -9,7 +9,7 @@ ghost use lib.ListN.{length};
 ghost use Rattle.table.specs.Parts.{Long};
 ghost use Rattle.lawful.specs.WellFormed.{wellFormed};
 ghost use Rattle.steps.specs.Step.{gives};
-ghost use Rattle.steps.specs.Run.{ran, turned, runBy, pieceCall, turnedAway};
+ghost use Rattle.steps.specs.Run.{ran, pieceAnswered, runBy, pieceCall, pieceRefused};
 use crate::pieces;
 use protocol::Answer;
 
@@ -26,9 +26,9 @@ pub fn piece(t: &mut [u8], e: &[u8]) -> Answer
 }
 
 // Piece i, and its answer.
-pub fn turn(t: &mut [u8], es: &[u8], b: &mut [u8], i: usize)
+pub fn answer_piece(t: &mut [u8], es: &[u8], b: &mut [u8], i: usize)
     requires { ⌜ Long (now t) × T (wellFormed (now t)) × (16 * i + 16 ≤ length (now b)) ⌝ }
-    ensures { λ _. ⌜ ran (now (t .exit)) (now (b .exit)) ≡ turned pieceCall i (now (t .entry)) (now (es .entry)) (now (b .entry)) ⌝ }
+    ensures { λ _. ⌜ ran (now (t .exit)) (now (b .exit)) ≡ pieceAnswered pieceCall i (now (t .entry)) (now (es .entry)) (now (b .entry)) ⌝ }
 {
     let a = piece(t, reader::event_of(es, i));
     pieces::store_answer(b, 16 * i, a);
@@ -41,7 +41,7 @@ pub fn run(t: &mut [u8], es: &[u8], b: &mut [u8], n: usize)
 {
     let mut i = 0;
     while i < n {
-        turn(t, es, b, i);
+        answer_piece(t, es, b, i);
         i += 1;
     }
 }
@@ -54,9 +54,9 @@ fn number_for(size: usize, number: u8) -> u8
 }
 
 // Piece i of a table that is refused with the number.
-pub fn turn_away(es: &[u8], b: &mut [u8], i: usize, number: u8)
+pub fn refuse_piece(es: &[u8], b: &mut [u8], i: usize, number: u8)
     requires { ⌜ 16 * i + 16 ≤ length (now b) ⌝ }
-    ensures { λ _. ⌜ ((t : List ℕ) → ran t (now (b .exit)) ≡ turned (turnedAway number) i t (now (es .entry)) (now (b .entry))) ⌝ }
+    ensures { λ _. ⌜ ((t : List ℕ) → ran t (now (b .exit)) ≡ pieceAnswered (pieceRefused number) i t (now (es .entry)) (now (b .entry))) ⌝ }
 {
     let e = reader::event_of(es, i);
     let a = pieces::refused(number_for(e.len(), number));
@@ -64,13 +64,13 @@ pub fn turn_away(es: &[u8], b: &mut [u8], i: usize, number: u8)
 }
 
 // The first n pieces of a table that is refused with the number.
-pub fn turn_all_away(es: &[u8], b: &mut [u8], n: usize, number: u8)
+pub fn refuse_all(es: &[u8], b: &mut [u8], n: usize, number: u8)
     requires { ⌜ 16 * n ≤ length (now b) ⌝ }
-    ensures { λ _. ⌜ ((t : List ℕ) → ran t (now (b .exit)) ≡ runBy (turnedAway number) n t (now (es .entry)) (now (b .entry))) ⌝ }
+    ensures { λ _. ⌜ ((t : List ℕ) → ran t (now (b .exit)) ≡ runBy (pieceRefused number) n t (now (es .entry)) (now (b .entry))) ⌝ }
 {
     let mut i = 0;
     while i < n {
-        turn_away(es, b, i, number);
+        refuse_piece(es, b, i, number);
         i += 1;
     }
 }

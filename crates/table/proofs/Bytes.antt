@@ -1,5 +1,4 @@
 -- Every change of a table of bytes gives bytes. In order: lists, a number and what is made of numbers, and from a thing up to the table.
--- Assumes nothing.
 use Prim.Native.Nat.{ℕ, zero, suc, _+_, _*_, _-_, _/_, _%_, max}
 use native.Mathlib.Omega.{arith}
 use mathlib.Core.List.{List, [], _∷_, _++_}
@@ -14,7 +13,7 @@ use Rattle.codec.specs.Level.{bitsOf}
 use Rattle.codec.specs.Part.{partOf, onPart}
 use Rattle.vector.specs.Vec.{Vec, width, zeros}
 use Rattle.vector.specs.Entries.{putFirst, putVec}
-use Rattle.protocol.specs.Record.{Rec, Msg, Update, Beat, stampIn}
+use Rattle.protocol.specs.Record.{Rec, Msg, Update, Heartbeat, stampIn}
 use Rattle.protocol.specs.State.{Mark, Session}
 use Rattle.protocol.specs.Change.{Change, SetSession, SetClock, Publish, Receive}
 use Rattle.record.specs.RecordBytes.{putFields, putRecord, putMessage}
@@ -85,7 +84,7 @@ bytes-putRecord b at r = bytes-putFields b at (r .id .key) (r .id .source) (r .q
 bytes-putMessage : (b : List ℕ) (at m : ℕ) (x : Msg) → Bytes b → Bytes (putMessage b at m x)
 unfolding putMessage
 bytes-putMessage b at m (Update r) = bytes-putRecord b at r
-bytes-putMessage b at m (Beat t) = bytes-putFields b at 0 m 0 2 (pos 0) t zeros
+bytes-putMessage b at m (Heartbeat t) = bytes-putFields b at 0 m 0 2 (pos 0) t zeros
 
 bytes-putMarks : (b : List ℕ) (i : ℕ) (ms : List Mark) → Bytes b → Bytes (putMarks b i ms)
 unfolding putMarks
@@ -114,7 +113,7 @@ bytes-stored : (x : Msg) → Gives (stored x)
 unfolding stored
 bytes-stored (Update r) n all =
     bytes-put 1 (putRecord n (slotAt (heldIn n)) r) 40 (heldIn n + 1) (bytes-putRecord n (slotAt (heldIn n)) r all)
-bytes-stored (Beat t) n all = all
+bytes-stored (Heartbeat t) n all = all
 
 bytes-published : (m : ℕ) (x : Msg) → Gives (published m x)
 unfolding published

@@ -115,7 +115,7 @@ module _ (t t′ : List ℕ) (f : List ℕ → List ℕ) (g : List Msg → List 
 module _ (t : List ℕ) (m : ℕ) (f : List ℕ → List ℕ) (l : Long t) (h : m < 4) (keeps : Keeps 13056 f) where
   setting-site : settingIn (onSite m f t) ≡ settingIn t
   unfolding settingIn
-  setting-site = λ z. record { sites = load-onSite t m f l h keeps 1 0 (omega arith) z; parts = load-onSite t m f l h keeps 1 1 (omega arith) z }
+  setting-site = λ z. record { sites = load-onSite t m f l h keeps 1 0 (omega arith) z; partitions = load-onSite t m f l h keeps 1 1 (omega arith) z }
 
   sessions-site : (s : ℕ) → sessionIn (sessionOf (onSite m f t) s) ≡ sessionIn (sessionOf t s)
   sessions-site s = ap sessionIn (session-onSite t m f l h keeps s)
@@ -131,7 +131,7 @@ module _ (s : ℕ) (x : Session) (t : List ℕ) (l : Long t) (fit : Fits (SetSes
   unfolding putChange settingIn
   setting-setSession = λ z. record {
     sites = load-onSession t s (putSession x) l (fit .0) (putSession-keeps x) 1 0 (omega arith) z;
-    parts = load-onSession t s (putSession x) l (fit .0) (putSession-keeps x) 1 1 (omega arith) z;
+    partitions = load-onSession t s (putSession x) l (fit .0) (putSession-keeps x) 1 1 (omega arith) z;
   }
 
   site-setSession : (m : ℕ) → siteOf (putChange (SetSession s x) t) m ≡ siteOf t m
@@ -195,7 +195,7 @@ module _ (m p : ℕ) (x : Msg) (t : List ℕ) (l : Long t) (fit : FitsPublish m 
   there = omega (arith, fit .site, fit .sites)
 
   keeps-publish : Keeps 13056 (publishedOn (load 1 t 0 - 1) m p x)
-  keeps-publish = publishedOn-keeps t (load 1 t 0 - 1) m p x l there (fit .part) few
+  keeps-publish = publishedOn-keeps t (load 1 t 0 - 1) m p x l there (fit .partition) few
 
   length-publish : length (putChange (Publish m p x) t) ≡ length t
   unfolding putChange
@@ -210,7 +210,7 @@ module _ (m p : ℕ) (x : Msg) (t : List ℕ) (l : Long t) (fit : FitsPublish m 
       let both = and-yes (at m p i q) (ltb e (load 1 t 0 - 1)) b in
       let g : e < load 1 t 0 - 1 = ltb-yes (both .1) in
       at-elim (λ j r. queueIn (pushed m x (channelOf (siteOf t j) r e)) ≡ queueIn (channelOf (siteOf t j) r e) ++ (x ∷ [])) m p i q
-      (queue-pushed m x (channelOf (siteOf t m) p e) (length-channelOf t m p l there (fit .part) e (omega (arith, few))) (omega (arith, there)) (fit .msg) (fit .ways e g))
+      (queue-pushed m x (channelOf (siteOf t m) p e) (length-channelOf t m p l there (fit .partition) e (omega (arith, few))) (omega (arith, there)) (fit .msg) (fit .ways e g))
       (both .0)
 
   sends-none : (i j q : ℕ) → T (not (isWay i j)) → [] ≡ cond (sentBy (load 1 t 0) m p i j q) ([] ++ (x ∷ [])) []
@@ -225,15 +225,15 @@ module _ (m p : ℕ) (x : Msg) (t : List ℕ) (l : Long t) (fit : FitsPublish m 
   decode-publish =
       let u = putChange (Publish m p x) t in
       let n = nodeOf (siteOf t m) p in
-      let long = length-nodeOf t m p l there (fit .part) in
-      let step = node-atPublish t (load 1 t 0 - 1) m p x l there (fit .part) few in
+      let long = length-nodeOf t m p l there (fit .partition) in
+      let step = node-atPublish t (load 1 t 0 - 1) m p x l there (fit .partition) few in
       state-ext (decode u) (apply (Publish m p x) (decode t))
       setting-publish
       (node-kept t u m p (published m x) step clockIn (clock-published m x n long there))
       (node-changed t u m p (published m x) step heardIn (λ j q. withEntry (heardIn (nodeOf (siteOf t j) q)) m (stampIn x)) (heard-published m x n long there (fit .msg)))
       (node-changed t u m p (published m x) step storeIn (λ j q. storeIn (nodeOf (siteOf t j) q) ++ recordsIn x) (store-published m x n long there (fit .msg) (fit .room)))
       (chan-changed t u (pushed m x) (λ c. c ++ (x ∷ [])) (sent (load 1 t 0) m p) (sentBy (load 1 t 0) m p)
-      (channel-atPublish t (load 1 t 0 - 1) m p x l there (fit .part) few) sends (λ i j q w. sent-sentBy (load 1 t 0) m p i j q (fit .site) (way-yes i j w .1)) sends-none)
+      (channel-atPublish t (load 1 t 0 - 1) m p x l there (fit .partition) few) sends (λ i j q w. sent-sentBy (load 1 t 0) m p i j q (fit .site) (way-yes i j w .1)) sends-none)
       (sessions-site t m (publishedOn (load 1 t 0 - 1) m p x) l there keeps-publish)
 
 -- ---- a node receives: first it has the message, then the message leaves the channel
@@ -243,7 +243,7 @@ module _ (i m p : ℕ) (x : Msg) (t : List ℕ) (l : Long t) (fit : FitsReceive 
   near = place-lt 4 i m (fit .source) (fit .site) (fit .other)
 
   keeps-node : Keeps 13056 (onNode p (received i x))
-  keeps-node = onNode-keeps t m p (received i x) l (fit .site) (fit .part) (received-keeps i x)
+  keeps-node = onNode-keeps t m p (received i x) l (fit .site) (fit .partition) (received-keeps i x)
 
   length-node : length (onSite m (onNode p (received i x)) t) ≡ length t
   length-node = length-onSite t m (onNode p (received i x)) l (fit .site) keeps-node
@@ -252,7 +252,7 @@ module _ (i m p : ℕ) (x : Msg) (t : List ℕ) (l : Long t) (fit : FitsReceive 
   long-node = long-still t (onSite m (onNode p (received i x)) t) length-node l
 
   keeps-channel : Keeps 13056 (onChannel p (placeOf i m) popped)
-  keeps-channel = onChannel-keeps (onSite m (onNode p (received i x)) t) i p (placeOf i m) popped long-node (fit .source) (fit .part) near popped-keeps
+  keeps-channel = onChannel-keeps (onSite m (onNode p (received i x)) t) i p (placeOf i m) popped long-node (fit .source) (fit .partition) near popped-keeps
 
   length-receive : length (putChange (Receive i m p x) t) ≡ length t
   unfolding putChange
@@ -274,14 +274,14 @@ module _ (i m p : ℕ) (x : Msg) (t : List ℕ) (l : Long t) (fit : FitsReceive 
   node-receive : (j q : ℕ) → nodeOf (siteOf (putChange (Receive i m p x) t) j) q ≡ cond (at m p j q) (received i x (nodeOf (siteOf t j) q)) (nodeOf (siteOf t j) q)
   unfolding putChange
   node-receive j q =
-      node-atChannel (onSite m (onNode p (received i x)) t) i p (placeOf i m) popped long-node (fit .source) (fit .part) near popped-keeps j q
-      ∙ node-atNode t m p (received i x) l (fit .site) (fit .part) (received-keeps i x) j q
+      node-atChannel (onSite m (onNode p (received i x)) t) i p (placeOf i m) popped long-node (fit .source) (fit .partition) near popped-keeps j q
+      ∙ node-atNode t m p (received i x) l (fit .site) (fit .partition) (received-keeps i x) j q
 
   channel-receive : (h q e : ℕ) → channelOf (siteOf (putChange (Receive i m p x) t) h) q e ≡ cond (taken i m p h q e) (popped (channelOf (siteOf t h) q e)) (channelOf (siteOf t h) q e)
   unfolding putChange
   channel-receive h q e =
-      channel-atChannel (onSite m (onNode p (received i x)) t) i p (placeOf i m) popped long-node (fit .source) (fit .part) near popped-keeps h q e
-      ∙ ap (λ c. cond (taken i m p h q e) (popped c) c) (channel-atNode t m p (received i x) l (fit .site) (fit .part) (received-keeps i x) h q e)
+      channel-atChannel (onSite m (onNode p (received i x)) t) i p (placeOf i m) popped long-node (fit .source) (fit .partition) near popped-keeps h q e
+      ∙ ap (λ c. cond (taken i m p h q e) (popped c) c) (channel-atNode t m p (received i x) l (fit .site) (fit .partition) (received-keeps i x) h q e)
 
   takes : (h q e : ℕ) → T (taken i m p h q e) → queueIn (popped (channelOf (siteOf t h) q e)) ≡ tail (queueIn (channelOf (siteOf t h) q e))
   takes h q e b =
@@ -289,7 +289,7 @@ module _ (i m p : ℕ) (x : Msg) (t : List ℕ) (l : Long t) (fit : FitsReceive 
       let same = at-yes i p h q (both .0) in
       let g : e ≡ placeOf i m = eqb-yes (both .1) in
       queue-popped (channelOf (siteOf t h) q e)
-      (length-channelOf t h q l (omega (arith, fit .source)) (omega (arith, fit .part)) e (omega (arith, near)))
+      (length-channelOf t h q l (omega (arith, fit .source)) (omega (arith, fit .partition)) e (omega (arith, near)))
       (bytes-channelOf t (fit .bytes) h q e)
 
   decode-receive : decode (putChange (Receive i m p x) t) ≡ apply (Receive i m p x) (decode t)
@@ -297,7 +297,7 @@ module _ (i m p : ℕ) (x : Msg) (t : List ℕ) (l : Long t) (fit : FitsReceive 
   decode-receive =
       let u = putChange (Receive i m p x) t in
       let n = nodeOf (siteOf t m) p in
-      let long = length-nodeOf t m p l (fit .site) (fit .part) in
+      let long = length-nodeOf t m p l (fit .site) (fit .partition) in
       let bytes = bytes-nodeOf t (fit .bytes) m p in
       state-ext (decode u) (apply (Receive i m p x) (decode t))
       setting-receive

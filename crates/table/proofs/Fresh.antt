@@ -1,5 +1,5 @@
 -- A fresh table says what a setup holds: nothing, in the setup's setting. In order: what zeros say, a table of zeros with its setting put, fresh.
--- `replicate` stays shut: only that all of its elements are 0 is used. Assumes nothing.
+-- `replicate` stays shut: only that all of its elements are 0 is used.
 use Prim.Native.Nat.{ℕ, zero, suc, _+_, _*_, _≤_, _<_}
 use native.Mathlib.Decide.{decLt}
 use native.Mathlib.Omega.{arith}
@@ -74,25 +74,25 @@ module _ (s : List ℕ) (blank : Every Zero s) where
 
 -- ---- a table of zeros with its setting put
 
-module _ (t : List ℕ) (blank : Every Zero t) (l : length t ≡ tableLength) (c : Setting) (h : c .sites < 256) (h′ : c .parts < 256) where
-  length-set : length (put 1 (put 1 t 0 (c .sites)) 1 (c .parts)) ≡ tableLength
-  length-set = length-put 1 (put 1 t 0 (c .sites)) 1 (c .parts) ∙ length-put 1 t 0 (c .sites) ∙ l
+module _ (t : List ℕ) (blank : Every Zero t) (l : length t ≡ tableLength) (c : Setting) (h : c .sites < 256) (h′ : c .partitions < 256) where
+  length-set : length (put 1 (put 1 t 0 (c .sites)) 1 (c .partitions)) ≡ tableLength
+  length-set = length-put 1 (put 1 t 0 (c .sites)) 1 (c .partitions) ∙ length-put 1 t 0 (c .sites) ∙ l
 
-  setting-set : settingIn (put 1 (put 1 t 0 (c .sites)) 1 (c .parts)) ≡ c
+  setting-set : settingIn (put 1 (put 1 t 0 (c .sites)) 1 (c .partitions)) ≡ c
   unfolding settingIn span
   setting-set =
-      let sites = load-put-other 1 1 (put 1 t 0 (c .sites)) 1 (c .parts) 0 (λ k u v x y. omega arith) ∙ load-put 1 t 0 (c .sites) (omega arith) h in
-      let parts = load-put 1 (put 1 t 0 (c .sites)) 1 (c .parts) (omega (arith, length-put 1 t 0 (c .sites))) h′ in
-      λ z. record { sites = sites z; parts = parts z }
+      let sites = load-put-other 1 1 (put 1 t 0 (c .sites)) 1 (c .partitions) 0 (λ k u v x y. omega arith) ∙ load-put 1 t 0 (c .sites) (omega arith) h in
+      let partitions = load-put 1 (put 1 t 0 (c .sites)) 1 (c .partitions) (omega (arith, length-put 1 t 0 (c .sites))) h′ in
+      λ z. record { sites = sites z; partitions = partitions z }
 
-  blank-set : (i : ℕ) → 2 ≤ i → getD (put 1 (put 1 t 0 (c .sites)) 1 (c .parts)) i 0 ≡ 0
+  blank-set : (i : ℕ) → 2 ≤ i → getD (put 1 (put 1 t 0 (c .sites)) 1 (c .partitions)) i 0 ≡ 0
   blank-set i b =
-      getD-put-other 1 (put 1 t 0 (c .sites)) 1 (c .parts) i (λ u v. omega arith) ∙ getD-put-other 1 t 0 (c .sites) i (λ u v. omega arith) ∙ blank i
+      getD-put-other 1 (put 1 t 0 (c .sites)) 1 (c .partitions) i (λ u v. omega arith) ∙ getD-put-other 1 t 0 (c .sites) i (λ u v. omega arith) ∙ blank i
 
-  decode-set : decode (put 1 (put 1 t 0 (c .sites)) 1 (c .parts)) ≡ setup c
+  decode-set : decode (put 1 (put 1 t 0 (c .sites)) 1 (c .partitions)) ≡ setup c
   unfolding decode setup
   decode-set =
-      let u = put 1 (put 1 t 0 (c .sites)) 1 (c .parts) in
+      let u = put 1 (put 1 t 0 (c .sites)) 1 (c .partitions) in
       let site : (m : ℕ) → Every Zero (siteOf u m) = λ m. every-site Zero refl u m (λ i b. blank-set i (omega arith)) in
       let node : (m p : ℕ) → Every Zero (nodeOf (siteOf u m) p) = λ m p. every-node Zero refl (siteOf u m) p (site m) in
       let channel : (m p d : ℕ) → Every Zero (channelOf (siteOf u m) p d) = λ m p d. every-channel Zero refl (siteOf u m) p d (site m) in
@@ -116,14 +116,14 @@ blank-replicate n i = go (decLt i n)
 
 pub length-fresh : (c : Setting) → length (fresh c) ≡ tableLength
 unfolding fresh
-length-fresh c = length-put 1 (put 1 (replicate tableLength 0) 0 (c .sites)) 1 (c .parts) ∙ length-put 1 (replicate tableLength 0) 0 (c .sites) ∙ length-replicate {A = ℕ} tableLength 0
+length-fresh c = length-put 1 (put 1 (replicate tableLength 0) 0 (c .sites)) 1 (c .partitions) ∙ length-put 1 (replicate tableLength 0) 0 (c .sites) ∙ length-replicate {A = ℕ} tableLength 0
 
-pub decode-fresh : (c : Setting) → c .sites < 256 → c .parts < 256 → decode (fresh c) ≡ setup c
+pub decode-fresh : (c : Setting) → c .sites < 256 → c .partitions < 256 → decode (fresh c) ≡ setup c
 unfolding fresh
 decode-fresh c h h′ = decode-set (replicate tableLength 0) (blank-replicate tableLength) (length-replicate {A = ℕ} tableLength 0) c h h′
 
 pub bytes-fresh : (c : Setting) → Bytes (fresh c)
 unfolding fresh
 bytes-fresh c =
-    bytes-put 1 (put 1 (replicate tableLength 0) 0 (c .sites)) 1 (c .parts)
+    bytes-put 1 (put 1 (replicate tableLength 0) 0 (c .sites)) 1 (c .partitions)
     (bytes-put 1 (replicate tableLength 0) 0 (c .sites) (λ i. rw (blank-replicate tableLength i) (fits-lit tt)))

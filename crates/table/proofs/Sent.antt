@@ -1,5 +1,5 @@
 -- A message that goes into a site's channels, one after the other. In order: one more channel, as the code counts; the length, and the channels
--- that the message has not come to. Assumes nothing.
+-- that the message has not come to.
 use Prim.Native.Nat.{ℕ, zero, suc, _+_, _≤_, _<_}
 use mathlib.Core.Path.{_≡_, refl, _∙_}
 use mathlib.Core.List.{List}

@@ -1,4 +1,4 @@
--- The state that a table's bytes say, for any bytes: each thing read at its place, and none beyond the places there are. Assumes nothing.
+-- The state that a table's bytes say, for any bytes: each thing read at its place, and none beyond the places there are.
 use Prim.Native.Nat.{ℕ}
 use mathlib.Core.Bool.{cond, not, _&&_}
 use mathlib.Core.List.{List, []}
@@ -13,7 +13,7 @@ use Rattle.table.specs.Parts.{placeOf, sessionOf, siteOf, nodeOf, channe
 
 -- byte 0 the number of sites, byte 1 the number of partitions
 unfoldable pub settingIn : List ℕ → Setting
-settingIn t = record { sites = load 1 t 0; parts = load 1 t 1 }
+settingIn t = record { sites = load 1 t 0; partitions = load 1 t 1 }
 
 unfoldable pub decode : List ℕ → State
 decode t = record {

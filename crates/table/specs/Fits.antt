@@ -1,5 +1,5 @@
 -- What must hold of a change so that the bytes say what it makes of the state: its numbers fit their bytes, its places are there, and there is room.
--- All of it follows from a well-formed table and an event that is served. Assumes nothing.
+-- All of it follows from a well-formed table and an event that is served.
 use Prim.Native.Nat.{ℕ, _-_, _≤_, _<_}
 use mathlib.Core.Path.{_≡_}
 use mathlib.Core.List.{List, [], _∷_}
@@ -20,7 +20,7 @@ use Rattle.table.specs.Put.{putChange}
 pub record FitsPublish (m p : ℕ) (x : Msg) (t : List ℕ) : Type 0 where
   pub site : m < load 1 t 0
   pub sites : load 1 t 0 ≤ 4
-  pub part : p < 4
+  pub partition : p < 4
   pub msg : FitsMsg x
   pub room : Room x (nodeOf (siteOf t m) p)
   pub ways : (d : ℕ) → d < load 1 t 0 - 1 → waitIn (channelOf (siteOf t m) p d) < 8
@@ -29,7 +29,7 @@ pub record FitsReceive (i m p : ℕ) (x : Msg) (t : List ℕ) : Type 0 where
   pub source : i < 4
   pub site : m < 4
   pub other : i ≡ m → ⊥
-  pub part : p < 4
+  pub partition : p < 4
   pub msg : FitsMsg x
   pub room : Room x (nodeOf (siteOf t m) p)
   pub bytes : Bytes t

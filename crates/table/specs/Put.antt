@@ -1,4 +1,4 @@
--- Each of the protocol's four changes in bytes, many of them, and a fresh setup. Assumes nothing.
+-- Each of the protocol's four changes in bytes, many of them, and a fresh setup.
 use Prim.Native.Nat.{ℕ, zero, suc, _-_}
 use mathlib.Core.List.{List, [], _∷_}
 use lib.ListN.{replicate}
@@ -29,6 +29,6 @@ unfoldable pub putChanges : List Change → List ℕ → List ℕ
 putChanges [] t = t
 putChanges (c ∷ cs) t = putChanges cs (putChange c t)
 
--- "makes everything empty with clocks and vectors 0"
+-- R18
 unfoldable pub fresh : Setting → List ℕ
-fresh c = put 1 (put 1 (replicate tableLength 0) 0 (c .sites)) 1 (c .parts)
+fresh c = put 1 (put 1 (replicate tableLength 0) 0 (c .sites)) 1 (c .partitions)

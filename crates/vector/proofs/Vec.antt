@@ -1,5 +1,5 @@
 -- The laws of vectors. In order: tests of all entries, the order entry by entry (`LeV`), and for each way of raising a vector what it is above.
--- None looks at the number of entries. Assumes nothing.
+-- None looks at the number of entries.
 use Prim.Native.Nat.{ℕ, zero, suc, _≤_, _<_, max}
 use native.Mathlib.Decide.{decLt}
 use native.Mathlib.Omega.{arith}

@@ -1,5 +1,5 @@
 -- Vectors of stamps, an entry for each site: functions of the site's number. In order: the width, all-zero, tests, and what raises a vector.
--- The laws are in proofs/Vec, over any number of entries; vectors as the code and the table hold them are in Entries. Assumes nothing.
+-- The laws are in proofs/Vec, over any number of entries; vectors as the code and the table hold them are in Entries.
 use Prim.Native.Nat.{ℕ, zero, suc, max}
 use mathlib.Core.Bool.{Bool, cond, _||_}
 use lib.Dec.{leb, eqb}

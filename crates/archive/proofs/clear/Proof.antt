@@ -1,4 +1,4 @@
--- `archive::clear` meets its contract: below i all is zero, and from i on it is as it was. Assumes nothing.
+-- `archive::clear` meets its contract: below i all is zero, and from i on it is as it was.
 use mathlib.Core.Path.{_≡_, refl, _∙_}
 use mathlib.Core.List.{_++_, append-nil}
 use Prim.Native.Nat.{_-_, _≤_}

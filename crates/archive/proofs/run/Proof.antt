@@ -16,8 +16,8 @@ use borrow.Author.Needs.{needs}
 pieces-for-requires : tie.Need-pieces-for-requires
 pieces-for-requires c κs = search needs
 
-turn-all-away-requires : tie.Need-turn-all-away-requires
-turn-all-away-requires c κs = search needs
+refuse-all-requires : tie.Need-refuse-all-requires
+refuse-all-requires c κs = search needs
 
 same-length : tie.Need-same-length
 same-length c = search needs
@@ -29,7 +29,7 @@ returns c =
     let p = k .before .before .before in
     let a = p .before .before .before .before .args in (
       p .pieces-for .ensures,
-      k .turn-all-away .ensures (a .table .now)
+      k .refuse-all .ensures (a .table .now)
           ∙ sym (run-no-table (a .table .now) (a .events .now) (a .answers .now) (p .pieces-for .result) (k .before .before .if1 .taken))
           ∙ ap (λ n. runBy stepCall n (a .table .now) (a .events .now) (a .answers .now)) (p .pieces-for .ensures),
     )
@@ -37,8 +37,8 @@ returns c =
 well-formed-requires : tie.Need-well-formed-requires
 well-formed-requires c κs = search needs
 
-turn-all-away-requires-2 : tie.Need-turn-all-away-requires-2
-turn-all-away-requires-2 c κs = search needs
+refuse-all-requires-2 : tie.Need-refuse-all-requires-2
+refuse-all-requires-2 c κs = search needs
 
 same-length-2 : tie.Need-same-length-2
 same-length-2 c = search needs
@@ -54,7 +54,7 @@ returns-2 c =
     let p = w .before .before .before in
     let a = p .before .before .before .before .args in (
       p .pieces-for .ensures,
-      k .turn-all-away2 .ensures (a .table .now)
+      k .answer-piece-all-away2 .ensures (a .table .now)
           ∙ sym (run-ill (a .table .now) (a .events .now) (a .answers .now) (p .pieces-for .result) (search needs) (sym (w .well-formed .ensures) ∙ not-true _ (k .before .before .if2 .taken)))
           ∙ ap (λ n. runBy stepCall n (a .table .now) (a .events .now) (a .answers .now)) (p .pieces-for .ensures),
     )
@@ -91,11 +91,11 @@ run-spec =
     tie.close
     (tie.spec
     pieces-for-requires
-    turn-all-away-requires
+    refuse-all-requires
     same-length
     returns
     well-formed-requires
-    turn-all-away-requires-2
+    refuse-all-requires-2
     same-length-2
     same-length-3
     returns-2

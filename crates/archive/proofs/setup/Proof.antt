@@ -1,5 +1,4 @@
 -- `archive::setup` meets its contract: the tests by `setup-23`, `setup-11` and `setup-done`, the bytes by what `clear` and the two stores ensure.
--- Assumes nothing.
 use mathlib.Core.Path.{sym, ap, _∙_}
 use borrow.Author.Needs.{needs}
 use borrow.Author.Tests.{not-true, not-false}
@@ -16,7 +15,7 @@ refused-requires c κs = search needs
 returns : tie.Need-returns
 returns c =
     let a = c .before .before .before .args in
-    ap (λ r. gives r (a .table .now)) (c .refused .ensures) ∙ sym (setup-23 (a .table .now) (a .sites) (a .parts) (c .before .if1 .taken))
+    ap (λ r. gives r (a .table .now)) (c .refused .ensures) ∙ sym (setup-23 (a .table .now) (a .sites) (a .partitions) (c .before .if1 .taken))
 
 refused-requires-2 : tie.Need-refused-requires-2
 refused-requires-2 c κs = search needs
@@ -25,7 +24,7 @@ returns-2 : tie.Need-returns-2
 unfolding settingLawful
 returns-2 c =
     let a = c .before .before .before .before .args in
-    ap (λ r. gives r (a .table .now)) (c .refused2 .ensures) ∙ sym (setup-11 (a .table .now) (a .sites) (a .parts) (search needs) (not-true _ (c .before .if2 .taken)))
+    ap (λ r. gives r (a .table .now)) (c .refused2 .ensures) ∙ sym (setup-11 (a .table .now) (a .sites) (a .partitions) (search needs) (not-true _ (c .before .if2 .taken)))
 
 clear-requires : tie.Need-clear-requires
 clear-requires c κs = search needs
@@ -46,7 +45,7 @@ returns-3 c =
     let y = z .before .before .before .before in
     let x = y .before .before .before .before in
     let a = x .before .before .before .before .before .args in
-    ap (λ t. gives Done t) (z .store-le2 .ensures ∙ rw (y .store-le .ensures, x .clear .ensures)) ∙ sym (setup-done (a .table .now) (a .sites) (a .parts) (search needs) (not-false _ (x .before .before .if2 .left)))
+    ap (λ t. gives Done t) (z .store-le2 .ensures ∙ rw (y .store-le .ensures, x .clear .ensures)) ∙ sym (setup-done (a .table .now) (a .sites) (a .partitions) (search needs) (not-false _ (x .before .before .if2 .left)))
 
 pub setup-spec : {M : Type 1} → statement M
 setup-spec =

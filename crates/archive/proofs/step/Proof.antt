@@ -1,4 +1,4 @@
--- `archive::step` meets its contract, test by test. Assumes nothing.
+-- `archive::step` meets its contract, test by test.
 use mathlib.Core.Path.{sym, ap, _∙_}
 use borrow.Author.Tests.{not-true, not-false}
 use Rattle.steps.specs.Step.{gives}

@@ -1,5 +1,5 @@
 -- `bench::lines`: the invariant keeps the place in step with the events printed; the measure is what is left of them. An event that the
--- reader gives before the end has a code. Assumes nothing.
+-- reader gives before the end has a code.
 use Prim.Native.Nat.{_≤_, _+_, _-_}
 use mathlib.Core.Path.{_≡_, ap}
 use native.Mathlib.Omega.{arith}

@@ -1,4 +1,4 @@
--- `bench::places` meets its contract: the loop's test keeps the count. Assumes nothing.
+-- `bench::places` meets its contract: the loop's test keeps the count.
 use Prim.Native.Nat.{_-_, _≤_}
 use native.Mathlib.Omega.{arith}
 use borrow.Author.Needs.{needs}

@@ -1,4 +1,4 @@
--- `bench::put_number` stays in the output: there is room for 20 digits. Assumes nothing.
+-- `bench::put_number` stays in the output: there is room for 20 digits.
 use Prim.Native.Nat.{_≤_}
 use native.Mathlib.Omega.{arith}
 use borrow.Author.Needs.{needs}

@@ -1,4 +1,4 @@
--- `bench::put_word` ends: the measure is what is left of the text. Assumes nothing.
+-- `bench::put_word` ends: the measure is what is left of the text.
 use Prim.Native.Nat.{_-_}
 use lib.ListN.{length}
 use borrow.Author.Needs.{needs}

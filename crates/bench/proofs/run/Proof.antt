@@ -1,4 +1,4 @@
--- `bench::run` ends: the place grows with each full buffer. No more events are printed than were read whole and answered. Assumes nothing.
+-- `bench::run` ends: the place grows with each full buffer. No more events are printed than were read whole and answered.
 use Prim.Native.Nat.{_-_}
 use mathlib.Core.Path.{_≡_}
 use lib.ListN.{length}

@@ -1,4 +1,4 @@
--- `bench::size`: no cast and no difference leaves its range, by cases on the sign. Assumes nothing.
+-- `bench::size`: no cast and no difference leaves its range, by cases on the sign.
 use Prim.Native.Nat.{ℕ}
 use mathlib.Core.Path.{_≡_}
 use mathlib.Core.Bool.{true, false}

@@ -1,4 +1,4 @@
--- `codec::bits_of` meets its contract, by the level's sign. Assumes nothing.
+-- `codec::bits_of` meets its contract, by the level's sign.
 use mathlib.Core.Path.{_≡_, _∙_, sym}
 use mathlib.Core.Bool.{true, false}
 use native.Mathlib.Omega.{arith}

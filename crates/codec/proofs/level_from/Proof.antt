@@ -1,4 +1,4 @@
--- `codec::level_from` meets its contract, by the half that b is in. Assumes nothing.
+-- `codec::level_from` meets its contract, by the half that b is in.
 use mathlib.Core.Path.{_∙_, sym}
 use Prim.Native.Nat.{_-_}
 use native.Mathlib.Omega.{arith}

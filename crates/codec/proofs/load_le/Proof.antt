@@ -1,4 +1,4 @@
--- `codec::load_le` meets its contract: r is the number in the n - i bytes from at + i. Assumes nothing.
+-- `codec::load_le` meets its contract: r is the number in the n - i bytes from at + i.
 use mathlib.Core.Path.{_≡_, refl, sym, _∙_}
 use Prim.Native.Nat.{_+_, _-_, _≤_, _<_}
 use native.Mathlib.Omega.{arith}

@@ -1,4 +1,4 @@
--- `codec::load_level` meets its contract, by what its two callees ensure. Assumes nothing.
+-- `codec::load_level` meets its contract, by what its two callees ensure.
 use mathlib.Core.Path.{_∙_, ap}
 use borrow.Author.Needs.{needs}
 use mir.Syntax.{w32}

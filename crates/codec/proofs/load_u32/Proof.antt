@@ -1,4 +1,4 @@
--- `codec::load_u32` meets its contract: four bytes' number fits 32 bits. Assumes nothing.
+-- `codec::load_u32` meets its contract: four bytes' number fits 32 bits.
 use native.Mathlib.Omega.{arith}
 use borrow.Author.Needs.{needs}
 use Rattle.codec.specs.Le.{span}

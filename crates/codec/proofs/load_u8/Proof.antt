@@ -1,4 +1,4 @@
--- `codec::load_u8` meets its contract: a number of one byte is that byte. Assumes nothing.
+-- `codec::load_u8` meets its contract: a number of one byte is that byte.
 use borrow.Author.Needs.{needs}
 use Rattle.codec.specs.Le.{load}
 use Rattle.codec.proofs.load_u8.Statement.{statement}

@@ -1,4 +1,4 @@
--- `codec::store_le` meets its contract: what is left to do is to put y in the n - i bytes from at + i. Assumes nothing.
+-- `codec::store_le` meets its contract: what is left to do is to put y in the n - i bytes from at + i.
 use mathlib.Core.Path.{_≡_, refl, sym, _∙_}
 use Prim.Native.Nat.{_+_, _-_, _≤_}
 use native.Mathlib.Omega.{arith}

@@ -1,4 +1,4 @@
--- `codec::store_level` meets its contract, by what its two callees ensure. Assumes nothing.
+-- `codec::store_level` meets its contract, by what its two callees ensure.
 use mathlib.Core.Path.{refl, _∙_, ap}
 use borrow.Author.Needs.{needs}
 use mir.Syntax.{w32}

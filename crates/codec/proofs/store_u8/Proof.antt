@@ -1,4 +1,4 @@
--- `codec::store_u8` meets its contract: the low byte of a byte is the byte. Assumes nothing.
+-- `codec::store_u8` meets its contract: the low byte of a byte is the byte.
 use native.Mathlib.Nat.{mod-eq-of-lt}
 use borrow.Author.Needs.{needs}
 use Rattle.codec.specs.Le.{put}

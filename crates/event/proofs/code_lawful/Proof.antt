@@ -1,4 +1,4 @@
--- `event::code_lawful` meets its contract, by what the load ensures. Assumes nothing.
+-- `event::code_lawful` meets its contract, by what the load ensures.
 use Rattle.event.specs.Event.{codeLawful}
 use Rattle.event.proofs.code_lawful.Statement.{statement}
 use Rattle.event.proofs.code_lawful.Tie as tie

@@ -1,4 +1,4 @@
--- `event::each_lawful` meets its contract: `all` says it of the first f fields. Assumes nothing.
+-- `event::each_lawful` meets its contract: `all` says it of the first f fields.
 use mathlib.Core.Path.{_≡_, sym}
 use Prim.Native.Nat.{_-_, _≤_}
 use native.Mathlib.Omega.{arith}

@@ -1,4 +1,4 @@
--- `event::fields_lawful` meets its contract: it tests field by field, which is what the protocol asks. Assumes nothing.
+-- `event::fields_lawful` meets its contract: it tests field by field, which is what the protocol asks.
 use Rattle.event.specs.Fields.{zeroAt}
 use Rattle.event.specs.Values.{fieldsIn}
 use Rattle.event.specs.Ranges.{fieldsLawful}

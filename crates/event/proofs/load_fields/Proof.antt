@@ -1,4 +1,4 @@
--- `event::load_fields` meets its contract, by what each load ensures. Assumes nothing.
+-- `event::load_fields` meets its contract, by what each load ensures.
 use mir.Facts.{toZ-ofZ}
 use Rattle.event.specs.Event.{timeOf, levelIn}
 use Rattle.event.specs.Values.{fieldsIn}

@@ -1,4 +1,4 @@
--- `event::load_keys` meets its contract: the first i keys are loaded. Assumes nothing.
+-- `event::load_keys` meets its contract: the first i keys are loaded.
 use mathlib.Core.Path.{_≡_}
 use Prim.Native.Nat.{_-_, _+_, _≤_}
 use native.Mathlib.Omega.{arith}

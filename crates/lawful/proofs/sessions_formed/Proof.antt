@@ -13,13 +13,13 @@ use Rattle.lawful.proofs.sessions_formed.Tie as tie
 use borrow.Author.Needs.{needs}
 
 abbrev Inv-loop : tie.InvT-loop
-Inv-loop t sites s₀ s = (s ≤ 16) × ((parts : ℕ) → allBelow s (λ k. sessionFormed (record { sites = sites; parts = parts }) (sessionOf t k)) ≡ true)
+Inv-loop t sites s₀ s = (s ≤ 16) × ((partitions : ℕ) → allBelow s (λ k. sessionFormed (record { sites = sites; partitions = partitions }) (sessionOf t k)) ≡ true)
 
 abbrev μ-loop : tie.MeasureT-loop
 μ-loop t sites s₀ s = 16 - s
 
 loop-holds : tie.Need-loop-holds Inv-loop μ-loop
-loop-holds c = (omega arith, λ parts. allBelow-none _)
+loop-holds c = (omega arith, λ partitions. allBelow-none _)
 
 session-requires : tie.Need-session-requires Inv-loop μ-loop
 session-requires c κs = search needs
@@ -29,9 +29,9 @@ session-formed-requires c κs = search needs
 
 returns : tie.Need-returns Inv-loop μ-loop
 returns c =
-    λ parts.
+    λ partitions.
     let k = c .before in
-    let no = fails (rw (k .before .session .ensures .0) at (k .session-formed .ensures parts)) (c .if1 .taken) in
+    let no = fails (rw (k .before .session .ensures .0) at (k .session-formed .ensures partitions)) (c .if1 .taken) in
     sym (allBelow-fails 16 _ (k .before .before .before .loop .s) (omega arith) no)
 
 add-s : tie.Need-add-s Inv-loop μ-loop
@@ -45,15 +45,15 @@ loop-again c =
     let k = c .before in
     let l = k .before .before .before in (
       omega arith,
-      λ parts. allBelow-more (l .loop .s) _ (l .loop .inv .1 parts) (passes (rw (k .before .session .ensures .0) at (k .session-formed .ensures parts)) (c .if1 .left)),
+      λ partitions. allBelow-more (l .loop .s) _ (l .loop .inv .1 partitions) (passes (rw (k .before .session .ensures .0) at (k .session-formed .ensures partitions)) (c .if1 .left)),
     )
 
 returns-2 : tie.Need-returns-2 Inv-loop μ-loop
 returns-2 c =
-    λ parts.
+    λ partitions.
     let l = c .before in
     let e : l .loop .s ≡ 16 = omega arith in
-    sym (rw e at (l .loop .inv .1 parts))
+    sym (rw e at (l .loop .inv .1 partitions))
 
 pub sessions-formed-spec : {M : Type 1} → statement M
 sessions-formed-spec =

@@ -1,4 +1,4 @@
--- `lawful::setting_lawful` meets its contract, as it is written. Assumes nothing.
+-- `lawful::setting_lawful` meets its contract, as it is written.
 use borrow.Author.Needs.{needs}
 use Rattle.lawful.specs.Values.{settingLawful}
 use Rattle.lawful.proofs.setting_lawful.Statement.{statement}

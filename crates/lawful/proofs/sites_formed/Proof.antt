@@ -13,10 +13,10 @@ use Rattle.lawful.proofs.sites_formed.Tie as tie
 use borrow.Author.Needs.{needs}
 
 abbrev Inv-loop : tie.InvT-loop
-Inv-loop t sites parts m₀ m = (m ≤ 4) × (allBelow m (λ k. siteFormed (record { sites = sites; parts = parts }) k (siteOf t k)) ≡ true)
+Inv-loop t sites partitions m₀ m = (m ≤ 4) × (allBelow m (λ k. siteFormed (record { sites = sites; partitions = partitions }) k (siteOf t k)) ≡ true)
 
 abbrev μ-loop : tie.MeasureT-loop
-μ-loop t sites parts m₀ m = 4 - m
+μ-loop t sites partitions m₀ m = 4 - m
 
 loop-holds : tie.Need-loop-holds Inv-loop μ-loop
 loop-holds c = (omega arith, allBelow-none _)

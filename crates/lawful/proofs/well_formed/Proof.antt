@@ -1,4 +1,4 @@
--- `lawful::well_formed` meets its contract, whichever test fails first. Assumes nothing.
+-- `lawful::well_formed` meets its contract, whichever test fails first.
 use mathlib.Core.Path.{_≡_, sym, subst}
 use mathlib.Core.Bool.{true, _&&_}
 use Prim.Native.Nat.{_<_}
@@ -14,11 +14,11 @@ use Rattle.lawful.proofs.well_formed.Tie as tie
 use borrow.Author.Needs.{needs}
 
 -- a lawful number of partitions is not 0
-parts-some : (c : Setting) → settingLawful c ≡ true → 0 < c .parts
+parts-some : (c : Setting) → settingLawful c ≡ true → 0 < c .partitions
 unfolding settingLawful
 parts-some c h =
-    let both = and-yes (ltb 0 (c .sites) && leb (c .sites) 4) (ltb 0 (c .parts) && leb (c .parts) 4) (subst T (sym h) tt) in
-    ltb-yes (and-yes (ltb 0 (c .parts)) (leb (c .parts) 4) (both .1) .0)
+    let both = and-yes (ltb 0 (c .sites) && leb (c .sites) 4) (ltb 0 (c .partitions) && leb (c .partitions) 4) (subst T (sym h) tt) in
+    ltb-yes (and-yes (ltb 0 (c .partitions)) (leb (c .partitions) 4) (both .1) .0)
 
 load-u8-requires : tie.Need-load-u8-requires
 load-u8-requires c κs = search needs
@@ -44,10 +44,10 @@ unfolding wellFormed settingIn
 returns-2 c =
     let at = c .before .before in
     let yes = passes (at .before .setting-lawful .ensures) (at .if1 .left) in
-    let parts = at .before .before .load-u82 in
+    let partitions = at .before .before .load-u82 in
     let sites = at .before .before .before .load-u8 in
-    let no = fails (c .before .sessions-formed .ensures (parts .result)) (c .if2 .taken) in
-    rw (← parts .ensures, ← sites .ensures, yes, no)
+    let no = fails (c .before .sessions-formed .ensures (partitions .result)) (c .if2 .taken) in
+    rw (← partitions .ensures, ← sites .ensures, yes, no)
 
 sites-formed-requires : tie.Need-sites-formed-requires
 sites-formed-requires c κs =
@@ -60,10 +60,10 @@ unfolding wellFormed settingIn
 returns-3 c =
     let at = c .before .before .before in
     let yes = passes (at .before .setting-lawful .ensures) (at .if1 .left) in
-    let parts = at .before .before .load-u82 in
+    let partitions = at .before .before .load-u82 in
     let sites = at .before .before .before .load-u8 in
-    let yesSessions = passes (c .before .before .sessions-formed .ensures (parts .result)) (c .before .if2 .left) in
-    rw (← parts .ensures, ← sites .ensures, yes, yesSessions, c .sites-formed .ensures)
+    let yesSessions = passes (c .before .before .sessions-formed .ensures (partitions .result)) (c .before .if2 .left) in
+    rw (← partitions .ensures, ← sites .ensures, yes, yesSessions, c .sites-formed .ensures)
 
 pub well-formed-spec : {M : Type 1} → statement M
 well-formed-spec =

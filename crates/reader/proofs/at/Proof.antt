@@ -1,5 +1,5 @@
 -- `reader::at` meets its contract: a walk of its MIR, by hand. A `Reader` is made, in the result's local, of the slice and the number passed. A `&[u8]` is
--- Copy, so what it owns is had twice: once for `events` at exit, and once inside the result, beside the facts of the place. Assumes nothing.
+-- Copy, so what it owns is had twice: once for `events` at exit, and once inside the result, beside the facts of the place.
 use mathlib.Core.Path.{refl}
 use Prim.Native.Nat.{ℕ, _<_, _^_}
 use mathlib.Core.List.{List, [], _∷_}

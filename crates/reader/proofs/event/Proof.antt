@@ -1,6 +1,6 @@
 -- `reader::event` meets its contract: a walk of its MIR, by hand. The struct is taken apart, and `piece` is called on its fields; of `piece` the proof knows
 -- its contract alone. The struct is Copy: what it owns is had twice, one copy is kept whole for the exit, and the other goes to the callee, beside the
--- lifetime's token, which comes back. Assumes nothing.
+-- lifetime's token, which comes back.
 use mathlib.Core.Path.{_≡_, refl}
 use Prim.Native.Nat.{ℕ}
 use mathlib.Core.List.{List, [], _∷_}

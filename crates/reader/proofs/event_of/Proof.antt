@@ -1,6 +1,6 @@
 -- `reader::event_of` meets its contract: a walk of its MIR, by hand. The `Reader` that `at` returns is held in a local and passed to `event`; of both the proof
 -- knows their contracts alone. In a local of a body MIR erases the lifetime of the struct's type, so the value is shown to have the type at `erased`: what
--- the struct owns does not say the lifetime's name. Assumes nothing.
+-- the struct owns does not say the lifetime's name.
 use mathlib.Core.Path.{_≡_, refl, ap, _∙_}
 use Prim.Native.Nat.{ℕ, _<_, _^_}
 use mathlib.Core.List.{List, [], _∷_}

@@ -1,4 +1,4 @@
--- `reader::piece` meets its contract: none beyond the end, and otherwise what is cut out. Assumes nothing.
+-- `reader::piece` meets its contract: none beyond the end, and otherwise what is cut out.
 use native.Mathlib.Omega.{arith}
 use Rattle.reader.proofs.Pieces.{piece-cut, piece-none}
 use Rattle.reader.proofs.piece.Statement.{statement}

@@ -1,4 +1,4 @@
--- `search::better` meets its contract: its returns are the cases of one more record. Assumes nothing.
+-- `search::better` meets its contract: its returns are the cases of one more record.
 use mathlib.Core.Path.{sym, _∙_}
 use borrow.Author.Needs.{needs}
 use borrow.Author.Tests.{not-true, not-false}

@@ -1,4 +1,4 @@
--- `search::is_candidate` meets its contract, by the tests in their order. Assumes nothing.
+-- `search::is_candidate` meets its contract, by the tests in their order.
 use mathlib.Core.Path.{sym, _∙_}
 use borrow.Author.Needs.{needs}
 use borrow.Author.Tests.{eq-eqb, ne-eqb}

@@ -1,4 +1,4 @@
--- `search::is_newer` meets its contract: its test is the definition's, of what the loads ensure. Assumes nothing.
+-- `search::is_newer` meets its contract: its test is the definition's, of what the loads ensure.
 use borrow.Author.Needs.{needs}
 use Rattle.protocol.specs.Record.{rank, newer}
 use Rattle.record.specs.RecordBytes.{recordAt}

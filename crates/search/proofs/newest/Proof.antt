@@ -1,4 +1,4 @@
--- `search::newest` meets its contract: what stands at the place that was found, if any. Assumes nothing.
+-- `search::newest` meets its contract: what stands at the place that was found, if any.
 use mathlib.Core.Path.{_≡_, sym, ap, subst, _∙_}
 use mathlib.Core.Option.{some}
 use Prim.Native.Nat.{_-_, _<_}

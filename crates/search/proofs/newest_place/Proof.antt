@@ -1,4 +1,4 @@
--- `search::newest_place` meets its contract: `best` is the place for the first k records. Assumes nothing.
+-- `search::newest_place` meets its contract: `best` is the place for the first k records.
 use mathlib.Core.Path.{_≡_, sym, ap, _∙_}
 use Prim.Native.Nat.{_-_, _≤_}
 use native.Mathlib.Omega.{arith}
@@ -25,7 +25,7 @@ loop-holds c = (omega arith, λ d. sym (place-none d _ _))
 -- the place is found over any setting, so its range follows at one
 best-at-most : (l : tie.At-loop Inv-loop μ-loop) → l .loop .best ≤ l .loop .k
 best-at-most l =
-    let any : Setting = record { sites = 0; parts = 0 } in
+    let any : Setting = record { sites = 0; partitions = 0 } in
     rw (l .loop .inv .1 any) (place-at-most any _ _ (l .loop .k))
 
 better-requires : tie.Need-better-requires Inv-loop μ-loop

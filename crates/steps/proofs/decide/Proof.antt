@@ -1,4 +1,4 @@
--- `steps::decide` meets its contract: by the event's code each used field is in its range, and the event's own function decides. Assumes nothing.
+-- `steps::decide` meets its contract: by the event's code each used field is in its range, and the event's own function decides.
 use Prim.Native.Nat.{ℕ, _-_, _≤_, _<_}
 use native.Mathlib.Omega.{arith}
 use mathlib.Core.Path.{_≡_, sym, ap, _∙_}
@@ -54,7 +54,7 @@ ten c = let k = code-ok (c .before .before) in omega arith
 
 parts-few : (f : tie.After-load-fields) → load 1 (f .before .before .before .args .t .now) 1 ≤ 4
 unfolding settingIn
-parts-few f = formed (f .before .before .before .args .t .now) (f .before .before .before .pre .1) .parts
+parts-few f = formed (f .before .before .before .args .t .now) (f .before .before .before .pre .1) .partitions
 
 -- ---- by the code
 

@@ -1,4 +1,4 @@
--- `table::receive` meets its contract: the two sites' parts are apart, so the second change finds its channel as it was. Assumes nothing.
+-- `table::receive` meets its contract: the two sites' parts are apart, so the second change finds its channel as it was.
 use mathlib.Core.Path.{_∙_}
 use native.Mathlib.Omega.{arith}
 use borrow.Author.Needs.{needs}
@@ -8,7 +8,7 @@ use Rattle.table.proofs.Beside.{site-received}
 use Rattle.table.proofs.receive.Statement.{statement}
 use Rattle.table.proofs.receive.Tie as tie
 
--- `table::receive` meets its contract: the two sites' parts are apart, so the second change finds its channel as it was. Assumes nothing.
+-- `table::receive` meets its contract: the two sites' parts are apart, so the second change finds its channel as it was.
 
 place-of-requires : tie.Need-place-of-requires
 place-of-requires c κs = search needs

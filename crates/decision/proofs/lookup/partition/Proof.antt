@@ -1,8 +1,8 @@
--- `decision::lookup::partition` meets its contract: a well-formed table has 1 to 4 partitions. Assumes nothing.
+-- `decision::lookup::partition` meets its contract: a well-formed table has 1 to 4 partitions.
 use mathlib.Core.Path.{refl}
 use native.Mathlib.Nat.{mod-lt}
 use native.Mathlib.Omega.{arith}
-use Rattle.protocol.specs.Record.{partOf}
+use Rattle.protocol.specs.Record.{partitionOf}
 use Rattle.table.specs.Decode.{settingIn}
 use Rattle.decision.proofs.Formed.{parts-some, parts-at-most}
 use Rattle.decision.proofs.lookup.partition.Statement.{statement}
@@ -19,7 +19,7 @@ partition-of-requires c κs =
     omega (arith, c .load-u8 .ensures, parts-some (s .args .t .now) (s .pre .1))
 
 returns : tie.Need-returns
-unfolding partOf settingIn
+unfolding partitionOf settingIn
 returns c =
     let s = c .before .before .before in
     let some = parts-some (s .args .t .now) (s .pre .1) in

@@ -1,4 +1,4 @@
--- `decision::pages::end` meets its contract: each return is a rung of the ladder. Assumes nothing.
+-- `decision::pages::end` meets its contract: each return is a rung of the ladder.
 use mathlib.Core.Path.{_≡_, sym, ap, _∙_}
 use mathlib.Core.Bool.{true}
 use borrow.Author.Tests.{not-true, not-false}

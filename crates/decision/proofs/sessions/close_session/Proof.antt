@@ -1,4 +1,4 @@
--- `decision::sessions::close_session` meets its contract: each return is a rung of the ladder. Assumes nothing.
+-- `decision::sessions::close_session` meets its contract: each return is a rung of the ladder.
 use mathlib.Core.Path.{_≡_, sym, ap, _∙_}
 use borrow.Author.Tests.{not-true, not-false}
 use borrow.Author.Needs.{needs}

@@ -1,4 +1,4 @@
--- `decision::writes::beat` meets its contract, by the tests in their order. Assumes nothing.
+-- `decision::writes::beat` meets its contract, by the tests in their order.
 use mathlib.Core.Path.{_≡_, sym, _∙_}
 use mathlib.Core.Bool.{Bool, true, false}
 use native.Mathlib.Omega.{arith}

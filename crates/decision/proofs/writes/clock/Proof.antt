@@ -1,4 +1,4 @@
--- `decision::writes::clock` meets its contract: its test is that of refusal 19. Assumes nothing.
+-- `decision::writes::clock` meets its contract: its test is that of refusal 19.
 use mathlib.Core.Path.{_≡_, sym, ap, _∙_}
 use native.Mathlib.Omega.{arith}
 use borrow.Author.Needs.{needs}

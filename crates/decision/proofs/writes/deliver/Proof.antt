@@ -1,4 +1,4 @@
--- `decision::writes::deliver` meets its contract, by the tests in their order. Assumes nothing.
+-- `decision::writes::deliver` meets its contract, by the tests in their order.
 use Prim.Native.Nat.{ℕ, _<_}
 use native.Mathlib.Omega.{arith}
 use mathlib.Core.Path.{_≡_, sym, ap, _∙_}

@@ -1,4 +1,4 @@
--- `decision::writes::has_room` meets its contract: `all` says it of the first d channels. Assumes nothing.
+-- `decision::writes::has_room` meets its contract: `all` says it of the first d channels.
 use mathlib.Core.Path.{_≡_, sym, ap}
 use Prim.Native.Nat.{_-_, _≤_}
 use native.Mathlib.Omega.{arith}

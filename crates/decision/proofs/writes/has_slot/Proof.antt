@@ -1,4 +1,4 @@
--- `decision::writes::has_slot` meets its contract, by what the node holds. Assumes nothing.
+-- `decision::writes::has_slot` meets its contract, by what the node holds.
 use borrow.Author.Needs.{needs}
 use Rattle.decision.proofs.writes.has_slot.Statement.{statement}
 use Rattle.decision.proofs.writes.has_slot.Tie as tie

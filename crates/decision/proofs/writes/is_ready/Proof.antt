@@ -1,4 +1,4 @@
--- `decision::writes::is_ready` meets its contract: the clock is after both. Assumes nothing.
+-- `decision::writes::is_ready` meets its contract: the clock is after both.
 use Rattle.vector.specs.Vec.{largest}
 use Rattle.vector.specs.Entries.{entry}
 use Rattle.protocol.specs.Needs.{putReady}

@@ -1,4 +1,4 @@
--- `decision::writes::put` meets its contract, by the tests in their order. Assumes nothing.
+-- `decision::writes::put` meets its contract, by the tests in their order.
 use Prim.Native.Nat.{_<_}
 use native.Mathlib.Omega.{arith}
 use mathlib.Core.Path.{_≡_, refl, sym, _∙_}
@@ -9,7 +9,7 @@ use mir.Syntax.{w32}
 use borrow.Author.Needs.{needs}
 use borrow.Author.Tests.{not-true, not-false}
 use Rattle.codec.specs.Le.{load}
-use Rattle.protocol.specs.Record.{partOf}
+use Rattle.protocol.specs.Record.{partitionOf}
 use Rattle.protocol.specs.Event.{PUT}
 use Rattle.protocol.proofs.Ladders.{refuse, stampedBy, putAt}
 use Rattle.parts.specs.Node.{clockIn, heldIn}
@@ -35,7 +35,7 @@ unfolding asSession
 returns c =
     let x = c .before .before .before .session in
     let a = c .before .before .before .before .before .args in
-    c .refused .ensures ∙ sym (put-closed (a .t .now) (a .s) (a .key) (a .quality) (a .level) (asSession (x .result)) (x .ensures .0) (partOf (settingIn (a .t .now)) (a .key)) refl (not-true _ (c .before .if1 .taken)))
+    c .refused .ensures ∙ sym (put-closed (a .t .now) (a .s) (a .key) (a .quality) (a .level) (asSession (x .result)) (x .ensures .0) (partitionOf (settingIn (a .t .now)) (a .key)) refl (not-true _ (c .before .if1 .taken)))
 
 refused-requires-2 : tie.Need-refused-requires-2
 refused-requires-2 c κs = search needs
@@ -46,7 +46,7 @@ returns-2 c =
     let k = c .before .before in
     let x = k .before .before .session in
     let a = k .before .before .before .before .args in
-    c .refused2 .ensures ∙ sym (put-paged (a .t .now) (a .s) (a .key) (a .quality) (a .level) (asSession (x .result)) (x .ensures .0) (partOf (settingIn (a .t .now)) (a .key)) refl (not-false _ (k .if1 .left)) (c .before .if2 .taken))
+    c .refused2 .ensures ∙ sym (put-paged (a .t .now) (a .s) (a .key) (a .quality) (a .level) (asSession (x .result)) (x .ensures .0) (partitionOf (settingIn (a .t .now)) (a .key)) refl (not-false _ (k .if1 .left)) (c .before .if2 .taken))
 
 -- the session is open, so its site exists
 there : (c : tie.Else2) → c .before .before .before .session .result .site < load 1 (c .before .before .before .before .before .args .t .now) 0

@@ -1,4 +1,4 @@
--- `event::bounds::keys_lawful` meets its contract: `all` says it of the first i keys. Assumes nothing.
+-- `event::bounds::keys_lawful` meets its contract: `all` says it of the first i keys.
 use mathlib.Core.Path.{_≡_, sym}
 use Prim.Native.Nat.{_-_, _≤_, min}
 use native.Mathlib.Omega.{arith}

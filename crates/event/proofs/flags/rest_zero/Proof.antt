@@ -1,4 +1,4 @@
--- `event::flags::rest_zero` meets its contract: no keys at all, or `all` says it of the first i. Assumes nothing.
+-- `event::flags::rest_zero` meets its contract: no keys at all, or `all` says it of the first i.
 use mathlib.Core.Path.{_≡_, sym, _∙_}
 use mathlib.Core.Bool.{_||_}
 use Prim.Native.Nat.{_-_, _+_, _≤_}

@@ -1,4 +1,4 @@
--- `event::flags::used` meets its contract: the table is its rule, tabulated, which antt computes. Assumes nothing.
+-- `event::flags::used` meets its contract: the table is its rule, tabulated, which antt computes.
 use Rattle.codec.specs.Tabulate.{tabulate}
 use Rattle.codec.proofs.Tabulate.{tab-at}
 use Rattle.event.specs.Fields.{uses}

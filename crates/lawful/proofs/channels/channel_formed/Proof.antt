@@ -1,4 +1,4 @@
--- `lawful::channels::channel_formed` meets its contract, with no message, too many or some. Assumes nothing.
+-- `lawful::channels::channel_formed` meets its contract, with no message, too many or some.
 use mathlib.Core.Path.{_≡_, sym, _∙_}
 use mathlib.Core.Bool.{true}
 use Prim.Native.Nat.{ℕ, _+_, _-_, _<_}

@@ -1,4 +1,4 @@
--- `lawful::channels::messages_formed` meets its contract: the first k messages are lawful. Assumes nothing.
+-- `lawful::channels::messages_formed` meets its contract: the first k messages are lawful.
 use mathlib.Core.Path.{_≡_, sym}
 use mathlib.Core.Bool.{true}
 use Prim.Native.Nat.{_-_, _≤_}
@@ -13,10 +13,10 @@ use Rattle.lawful.proofs.channels.messages_formed.Tie as tie
 use borrow.Author.Needs.{needs}
 
 abbrev Inv-loop : tie.InvT-loop
-Inv-loop b sites parts i p front wait k₀ k = (k ≤ wait) × (allBelow k (λ j. messageFormed (record { sites = sites; parts = parts }) i p b (ringAt front j)) ≡ true)
+Inv-loop b sites partitions i p front wait k₀ k = (k ≤ wait) × (allBelow k (λ j. messageFormed (record { sites = sites; partitions = partitions }) i p b (ringAt front j)) ≡ true)
 
 abbrev μ-loop : tie.MeasureT-loop
-μ-loop b sites parts i p front wait k₀ k = wait - k
+μ-loop b sites partitions i p front wait k₀ k = wait - k
 
 loop-holds : tie.Need-loop-holds Inv-loop μ-loop
 loop-holds c = (omega arith, allBelow-none _)

@@ -1,4 +1,4 @@
--- `lawful::nodes::node_formed` meets its contract, whichever test fails first. Assumes nothing.
+-- `lawful::nodes::node_formed` meets its contract, whichever test fails first.
 use mathlib.Core.Bool.{and-false}
 use borrow.Author.Tests.{lt-leb, le-leb}
 use Rattle.codec.proofs.Tests.{fails, passes}
@@ -39,8 +39,8 @@ returns-3 : tie.Need-returns-3
 unfolding nodeFormed heardIn
 returns-3 c =
     let at = c .before .before .before .before .before in
-    let parts = at .before .before .before .before .args .parts in
-    let no = fails (c .before .vector-formed .ensures parts) (c .if3 .taken) in
+    let partitions = at .before .before .before .before .args .partitions in
+    let no = fails (c .before .vector-formed .ensures partitions) (c .if3 .taken) in
     rw (no, and-false)
 
 records-formed-requires : tie.Need-records-formed-requires
@@ -54,8 +54,8 @@ returns-4 c =
     let at = time .before .before .before in
     let held = at .before .before .held .ensures in
     let few = rw (at .before .most .ensures .0, held) at (at .if1 .left) in
-    let parts = at .before .before .before .before .args .parts in
-    let yesVec = passes (vec .before .vector-formed .ensures parts) (vec .if3 .left) in
+    let partitions = at .before .before .before .before .args .partitions in
+    let yesVec = passes (vec .before .vector-formed .ensures partitions) (vec .if3 .left) in
     let yesTime = passes (time .before .time-lawful .ensures) (time .if2 .left) in
     rw (le-leb _ _ few, c .records-formed .ensures, yesVec, ← time .before .before .clock .ensures, yesTime, held)
 

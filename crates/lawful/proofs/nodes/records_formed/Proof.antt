@@ -1,4 +1,4 @@
--- `lawful::nodes::records_formed` meets its contract: the first k records are lawful. Assumes nothing.
+-- `lawful::nodes::records_formed` meets its contract: the first k records are lawful.
 use mathlib.Core.Path.{_≡_, sym}
 use mathlib.Core.Bool.{true}
 use Prim.Native.Nat.{_-_, _≤_}
@@ -13,10 +13,10 @@ use Rattle.lawful.proofs.nodes.records_formed.Tie as tie
 use borrow.Author.Needs.{needs}
 
 abbrev Inv-loop : tie.InvT-loop
-Inv-loop n sites parts p held k₀ k = (k ≤ held) × (allBelow k (λ j. recordFormed (record { sites = sites; parts = parts }) p n (slotAt j)) ≡ true)
+Inv-loop n sites partitions p held k₀ k = (k ≤ held) × (allBelow k (λ j. recordFormed (record { sites = sites; partitions = partitions }) p n (slotAt j)) ≡ true)
 
 abbrev μ-loop : tie.MeasureT-loop
-μ-loop n sites parts p held k₀ k = held - k
+μ-loop n sites partitions p held k₀ k = held - k
 
 loop-holds : tie.Need-loop-holds Inv-loop μ-loop
 loop-holds c = (omega arith, allBelow-none _)

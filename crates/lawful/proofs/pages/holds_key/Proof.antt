@@ -1,4 +1,4 @@
--- `lawful::pages::holds_key` meets its contract: k is none of the first i keys. Assumes nothing.
+-- `lawful::pages::holds_key` meets its contract: k is none of the first i keys.
 use mathlib.Core.Path.{_≡_, sym, ap, _∙_}
 use mathlib.Core.Bool.{true, not}
 use Prim.Native.Nat.{_+_, _-_, _≤_}

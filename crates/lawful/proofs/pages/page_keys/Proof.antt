@@ -1,4 +1,4 @@
--- `lawful::pages::page_keys` meets its contract, whether the page is open or not. Assumes nothing.
+-- `lawful::pages::page_keys` meets its contract, whether the page is open or not.
 use mathlib.Core.Path.{_≡_, sym, _∙_}
 use mathlib.Core.Bool.{true, false}
 use Prim.Native.Nat.{ℕ}

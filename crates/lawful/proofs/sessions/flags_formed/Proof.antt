@@ -1,4 +1,4 @@
--- `lawful::sessions::flags_formed` meets its contract: the first i flags passed. Assumes nothing.
+-- `lawful::sessions::flags_formed` meets its contract: the first i flags passed.
 use mathlib.Core.Path.{_≡_, sym}
 use mathlib.Core.Bool.{true}
 use Prim.Native.Nat.{_+_, _-_, _≤_}

@@ -1,4 +1,4 @@
--- `lawful::sessions::site_lawful` meets its contract, whether the session is open or not. Assumes nothing.
+-- `lawful::sessions::site_lawful` meets its contract, whether the session is open or not.
 use mathlib.Core.Path.{sym, _∙_}
 use borrow.Author.Tests.{ne-eqb}
 use borrow.Author.Needs.{needs}

@@ -13,11 +13,11 @@ use Rattle.lawful.proofs.sites.channels_formed.Tie as tie
 use borrow.Author.Needs.{needs}
 
 abbrev Inv-loop : tie.InvT-loop
-Inv-loop site sites parts m p d₀ d =
-    (d ≤ 3) × (allBelow d (λ k. channelFormed (record { sites = sites; parts = parts }) m p k (channelOf site p k)) ≡ true)
+Inv-loop site sites partitions m p d₀ d =
+    (d ≤ 3) × (allBelow d (λ k. channelFormed (record { sites = sites; partitions = partitions }) m p k (channelOf site p k)) ≡ true)
 
 abbrev μ-loop : tie.MeasureT-loop
-μ-loop site sites parts m p d₀ d = 3 - d
+μ-loop site sites partitions m p d₀ d = 3 - d
 
 loop-holds : tie.Need-loop-holds Inv-loop μ-loop
 loop-holds c = (omega arith, allBelow-none _)

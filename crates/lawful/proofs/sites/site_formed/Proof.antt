@@ -14,12 +14,12 @@ use Rattle.lawful.proofs.sites.site_formed.Tie as tie
 use borrow.Author.Needs.{needs}
 
 abbrev Inv-loop : tie.InvT-loop
-Inv-loop site sites parts m p₀ p =
-    let c : Setting = record { sites = sites; parts = parts } in
+Inv-loop site sites partitions m p₀ p =
+    let c : Setting = record { sites = sites; partitions = partitions } in
     (p ≤ 4) × (allBelow p (λ k. nodeFormed c m k (nodeOf site k) && allBelow 3 (λ d. channelFormed c m k d (channelOf site k d))) ≡ true)
 
 abbrev μ-loop : tie.MeasureT-loop
-μ-loop site sites parts m p₀ p = 4 - p
+μ-loop site sites partitions m p₀ p = 4 - p
 
 loop-holds : tie.Need-loop-holds Inv-loop μ-loop
 loop-holds c = (omega arith, allBelow-none _)

@@ -1,4 +1,4 @@
--- `outcome::answers::kept` meets its contract. Assumes nothing.
+-- `outcome::answers::kept` meets its contract.
 use mathlib.Core.Path.{refl}
 use Rattle.outcome.specs.Decided.{changesOf, outcomeOf}
 use Rattle.outcome.proofs.answers.kept.Statement.{statement}

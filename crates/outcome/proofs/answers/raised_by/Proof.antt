@@ -1,4 +1,4 @@
--- `outcome::answers::raised_by` meets its contract: nothing was found, or it is raised. Assumes nothing.
+-- `outcome::answers::raised_by` meets its contract: nothing was found, or it is raised.
 use borrow.Author.Needs.{needs}
 use borrow.Author.Tests.{not-true, not-false}
 use Rattle.protocol.specs.Record.{raisedBy}

@@ -1,4 +1,4 @@
--- `outcome::answers::refused` meets its contract. Assumes nothing.
+-- `outcome::answers::refused` meets its contract.
 use mathlib.Core.Path.{refl}
 use Rattle.protocol.specs.Event.{plain}
 use Rattle.outcome.specs.Decided.{changesOf, outcomeOf}

@@ -1,4 +1,4 @@
--- `outcome::answers::shown` meets its contract: nothing was found, or its fields are shown. Assumes nothing.
+-- `outcome::answers::shown` meets its contract: nothing was found, or its fields are shown.
 use mir.ValLaws.{toZ-ofZ}
 use mir.Syntax.{w32}
 use borrow.Author.Needs.{needs}

@@ -1,4 +1,4 @@
--- `outcome::answers::stored` meets its contract: the message carries the old vector, and the session has the new one. Assumes nothing.
+-- `outcome::answers::stored` meets its contract: the message carries the old vector, and the session has the new one.
 use mathlib.Core.Path.{_≡_}
 use native.Mathlib.Omega.{arith}
 use lib.ListN.{length}

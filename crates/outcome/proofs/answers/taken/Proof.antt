@@ -1,4 +1,4 @@
--- `outcome::answers::taken` meets its contract: the message and its vector are the letter's. Assumes nothing.
+-- `outcome::answers::taken` meets its contract: the message and its vector are the letter's.
 use mathlib.Core.Path.{refl}
 use Rattle.record.specs.Meaning.{asMessage}
 use Rattle.outcome.specs.Decided.{changesOf, outcomeOf}

@@ -1,4 +1,4 @@
--- `outcome::keeping::closed` meets its contract. Assumes nothing.
+-- `outcome::keeping::closed` meets its contract.
 use borrow.Author.Needs.{needs}
 use Rattle.codec.specs.Tabulate.{tabulate}
 use Rattle.protocol.specs.State.{noPage, closed}

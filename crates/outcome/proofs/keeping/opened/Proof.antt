@@ -1,4 +1,4 @@
--- `outcome::keeping::opened` meets its contract: a closed session, but for what is set. Assumes nothing.
+-- `outcome::keeping::opened` meets its contract: a closed session, but for what is set.
 use mathlib.Core.Path.{ap}
 use mathlib.Core.Bool.{true}
 use borrow.Author.Needs.{needs}

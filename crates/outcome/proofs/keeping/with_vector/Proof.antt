@@ -1,4 +1,4 @@
--- `outcome::keeping::with_vector` meets its contract. Assumes nothing.
+-- `outcome::keeping::with_vector` meets its contract.
 use mathlib.Core.Path.{refl}
 use Rattle.parts.specs.Meaning.{asSession}
 use Rattle.outcome.proofs.keeping.with_vector.Statement.{statement}

@@ -1,4 +1,4 @@
--- `outcome::marks::all_read` meets its contract: `all` says it of the marks from place i on. Assumes nothing.
+-- `outcome::marks::all_read` meets its contract: `all` says it of the marks from place i on.
 use mathlib.Core.Path.{_≡_, ap, _∙_}
 use mathlib.Core.List.{List}
 use Prim.Native.Nat.{ℕ, _≤_}

@@ -1,4 +1,4 @@
--- `outcome::marks::awaited` meets its contract: `any` says it of the marks from place i on. Assumes nothing.
+-- `outcome::marks::awaited` meets its contract: `any` says it of the marks from place i on.
 use mathlib.Core.Path.{_≡_, ap, _∙_}
 use Prim.Native.Nat.{_≤_}
 use native.Mathlib.Omega.{arith}

@@ -1,4 +1,4 @@
--- `outcome::marks::distinct` meets its contract: `all` says it of the keys from place i on. Assumes nothing.
+-- `outcome::marks::distinct` meets its contract: `all` says it of the keys from place i on.
 use mathlib.Core.Path.{_≡_, ap, _∙_}
 use Prim.Native.Nat.{_+_, _-_, _≤_}
 use native.Mathlib.Omega.{arith}

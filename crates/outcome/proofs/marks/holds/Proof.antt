@@ -1,4 +1,4 @@
--- `outcome::marks::holds` meets its contract: `any` says it of the keys from place i on. Assumes nothing.
+-- `outcome::marks::holds` meets its contract: `any` says it of the keys from place i on.
 use mathlib.Core.Path.{_≡_}
 use Prim.Native.Nat.{_≤_}
 use native.Mathlib.Omega.{arith}

@@ -1,4 +1,4 @@
--- `outcome::marks::read` meets its contract: the first i places are marked. Assumes nothing.
+-- `outcome::marks::read` meets its contract: the first i places are marked.
 use mathlib.Core.Path.{_≡_, refl, sym, _∙_}
 use mathlib.Core.Bool.{false, _||_}
 use Prim.Native.Nat.{ℕ, _-_, _≤_, _<_}

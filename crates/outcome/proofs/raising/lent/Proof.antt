@@ -1,5 +1,5 @@
 -- `outcome::raising::lent` meets its contract: a walk of its MIR, by hand. The session is copied into a local, which is lent to `raise` for a lifetime
--- made for the call, and taken back at the last value that `raise` ensures. Assumes nothing.
+-- made for the call, and taken back at the last value that `raise` ensures.
 use mathlib.Core.Path.{refl, sym, ap, subst}
 use Prim.Native.Nat.{ℕ, _<_}
 use mathlib.Core.List.{[], _∷_, List}

@@ -1,5 +1,5 @@
 -- `outcome::raising::raise` meets its contract: a walk of its MIR, by hand. The borrow is opened, the session is copied out and passed to `raised`,
--- whose result is stored over it, and the borrow is closed at that result. No field is looked at. Assumes nothing.
+-- whose result is stored over it, and the borrow is closed at that result. No field is looked at.
 use mathlib.Core.Path.{refl}
 use Prim.Native.Nat.{ℕ, _<_}
 use mathlib.Core.List.{[], _∷_, List}

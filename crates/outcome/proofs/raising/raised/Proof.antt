@@ -1,4 +1,4 @@
--- `outcome::raising::raised` meets its contract: the session says the same but for its vector. Assumes nothing.
+-- `outcome::raising::raised` meets its contract: the session says the same but for its vector.
 use mathlib.Core.Path.{ap}
 use borrow.Author.Needs.{needs}
 use Rattle.protocol.specs.State.{withVec}

@@ -1,4 +1,4 @@
--- `outcome::raising::raised_by` meets its contract: nothing was found, or the session was lent. Assumes nothing.
+-- `outcome::raising::raised_by` meets its contract: nothing was found, or the session was lent.
 use mathlib.Core.Path.{_∙_}
 use borrow.Author.Needs.{needs}
 use borrow.Author.Tests.{not-true, not-false}

@@ -1,4 +1,4 @@
--- `parts::channels::first` meets its contract, by what its callees ensure. Assumes nothing.
+-- `parts::channels::first` meets its contract, by what its callees ensure.
 use mathlib.Core.Path.{_∙_}
 use borrow.Author.Needs.{needs}
 use Rattle.parts.proofs.channels.first.Statement.{statement}

@@ -1,4 +1,4 @@
--- `parts::channels::front` meets its contract, by its one load. Assumes nothing.
+-- `parts::channels::front` meets its contract, by its one load.
 use borrow.Author.Needs.{needs}
 use Rattle.parts.specs.Channel.{frontIn}
 use Rattle.parts.proofs.channels.front.Statement.{statement}

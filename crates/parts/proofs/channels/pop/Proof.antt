@@ -1,4 +1,4 @@
--- `parts::channels::pop` meets its contract: the front goes on by one, and one less waits. Assumes nothing.
+-- `parts::channels::pop` meets its contract: the front goes on by one, and one less waits.
 use mathlib.Core.Path.{_∙_}
 use borrow.Author.Needs.{needs}
 use Rattle.parts.specs.Channel.{popped}

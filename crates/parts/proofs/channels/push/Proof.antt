@@ -1,4 +1,4 @@
--- `parts::channels::push` meets its contract: the message is stored behind the last, and one more waits. Assumes nothing.
+-- `parts::channels::push` meets its contract: the message is stored behind the last, and one more waits.
 use mathlib.Core.Path.{_∙_}
 use borrow.Author.Needs.{needs}
 use Rattle.parts.specs.Channel.{pushed}

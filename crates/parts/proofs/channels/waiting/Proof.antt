@@ -1,4 +1,4 @@
--- `parts::channels::waiting` meets its contract, by its one load. Assumes nothing.
+-- `parts::channels::waiting` meets its contract, by its one load.
 use borrow.Author.Needs.{needs}
 use Rattle.parts.specs.Channel.{waitIn}
 use Rattle.parts.proofs.channels.waiting.Statement.{statement}

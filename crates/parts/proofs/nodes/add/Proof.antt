@@ -1,4 +1,4 @@
--- `parts::nodes::add` meets its contract: a record at the first free place, and one more held. Assumes nothing.
+-- `parts::nodes::add` meets its contract: a record at the first free place, and one more held.
 use mathlib.Core.Path.{_∙_}
 use borrow.Author.Needs.{needs}
 use Rattle.parts.proofs.nodes.add.Statement.{statement}

@@ -1,4 +1,4 @@
--- `parts::nodes::clock` meets its contract, by its one load. Assumes nothing.
+-- `parts::nodes::clock` meets its contract, by its one load.
 use borrow.Author.Needs.{needs}
 use Rattle.parts.specs.Node.{clockIn}
 use Rattle.parts.proofs.nodes.clock.Statement.{statement}

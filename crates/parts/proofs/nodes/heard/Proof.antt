@@ -1,4 +1,4 @@
--- `parts::nodes::heard` meets its contract, by its one load. Assumes nothing.
+-- `parts::nodes::heard` meets its contract, by its one load.
 use borrow.Author.Needs.{needs}
 use Rattle.parts.specs.Node.{heardIn}
 use Rattle.parts.proofs.nodes.heard.Statement.{statement}

@@ -1,4 +1,4 @@
--- `parts::nodes::held` meets its contract, by its one load. Assumes nothing.
+-- `parts::nodes::held` meets its contract, by its one load.
 use borrow.Author.Needs.{needs}
 use Rattle.parts.specs.Node.{heldIn}
 use Rattle.parts.proofs.nodes.held.Statement.{statement}

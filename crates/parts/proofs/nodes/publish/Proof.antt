@@ -1,4 +1,4 @@
--- `parts::nodes::publish` meets its contract: the entry is set, and the message stored. Assumes nothing.
+-- `parts::nodes::publish` meets its contract: the entry is set, and the message stored.
 use mathlib.Core.Path.{_∙_}
 use native.Mathlib.Omega.{arith}
 use borrow.Author.Needs.{needs}

@@ -1,4 +1,4 @@
--- `parts::nodes::receive` meets its contract: the entry becomes the later stamp, and the message is stored. Assumes nothing.
+-- `parts::nodes::receive` meets its contract: the entry becomes the later stamp, and the message is stored.
 use mathlib.Core.Path.{_∙_}
 use native.Mathlib.Omega.{arith}
 use borrow.Author.Needs.{needs}

@@ -1,4 +1,4 @@
--- `parts::nodes::set_clock` meets its contract, by its one store. Assumes nothing.
+-- `parts::nodes::set_clock` meets its contract, by its one store.
 use borrow.Author.Needs.{needs}
 use Rattle.parts.specs.Node.{clockSet}
 use Rattle.parts.proofs.nodes.set_clock.Statement.{statement}

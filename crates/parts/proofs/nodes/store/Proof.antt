@@ -1,4 +1,4 @@
--- `parts::nodes::store` meets its contract: an update is added, a heartbeat is not. Assumes nothing.
+-- `parts::nodes::store` meets its contract: an update is added, a heartbeat is not.
 use mathlib.Core.Path.{sym, ap, _∙_, subst}
 use native.Mathlib.Omega.{arith}
 use borrow.Author.Needs.{needs}

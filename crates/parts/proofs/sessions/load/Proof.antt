@@ -1,4 +1,4 @@
--- `parts::sessions::load` meets its contract: each field is what its load ensures, and of the keys and marks only those in use count. Assumes nothing.
+-- `parts::sessions::load` meets its contract: each field is what its load ensures, and of the keys and marks only those in use count.
 use native.Mathlib.Omega.{arith}
 use borrow.Author.Needs.{needs}
 use Rattle.codec.specs.Le.{load}

@@ -1,4 +1,4 @@
--- `parts::sessions::load_keys` meets its contract: the first i keys are loaded. Assumes nothing.
+-- `parts::sessions::load_keys` meets its contract: the first i keys are loaded.
 use mathlib.Core.Path.{_≡_}
 use Prim.Native.Nat.{ℕ, _+_, _-_, _≤_, _<_}
 use native.Mathlib.Omega.{arith}

@@ -1,4 +1,4 @@
--- `parts::sessions::load_marks` meets its contract: the first i marks are loaded. Assumes nothing.
+-- `parts::sessions::load_marks` meets its contract: the first i marks are loaded.
 use mathlib.Core.Bool.{false}
 use mathlib.Core.Path.{_≡_, ap}
 use Prim.Native.Nat.{ℕ, _+_, _-_, _≤_, _<_}

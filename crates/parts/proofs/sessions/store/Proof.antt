@@ -1,4 +1,4 @@
--- `parts::sessions::store` meets its contract: the head, the vectors and the marks are stored, the last first. Assumes nothing.
+-- `parts::sessions::store` meets its contract: the head, the vectors and the marks are stored, the last first.
 use mathlib.Core.Path.{_∙_}
 use borrow.Author.Needs.{needs}
 use Rattle.codec.proofs.Tabulate.{tab-length}

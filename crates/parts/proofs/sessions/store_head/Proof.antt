@@ -1,4 +1,4 @@
--- `parts::sessions::store_head` meets its contract: four stores, the last first. Assumes nothing.
+-- `parts::sessions::store_head` meets its contract: four stores, the last first.
 use mathlib.Core.Path.{_∙_}
 use borrow.Author.Needs.{needs}
 use Rattle.parts.proofs.sessions.store_head.Statement.{statement}

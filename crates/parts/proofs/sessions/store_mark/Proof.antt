@@ -1,4 +1,4 @@
--- `parts::sessions::store_mark` meets its contract, by its two stores. Assumes nothing.
+-- `parts::sessions::store_mark` meets its contract, by its two stores.
 use mathlib.Core.Path.{_∙_}
 use borrow.Author.Needs.{needs}
 use Rattle.parts.proofs.sessions.store_mark.Statement.{statement}

@@ -1,4 +1,4 @@
--- `parts::sessions::store_marks` meets its contract: what is left to do is to put the marks from i on. Assumes nothing.
+-- `parts::sessions::store_marks` meets its contract: what is left to do is to put the marks from i on.
 use mathlib.Core.Path.{_≡_, refl, sym, _∙_}
 use Prim.Native.Nat.{_-_, _≤_}
 use native.Mathlib.Omega.{arith}

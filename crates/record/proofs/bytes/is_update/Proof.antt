@@ -1,4 +1,4 @@
--- `record::bytes::is_update` meets its contract, variant by variant. Assumes nothing.
+-- `record::bytes::is_update` meets its contract, variant by variant.
 use mathlib.Core.Path.{sym, ap}
 use mathlib.Core.List.{[], _∷_}
 use Rattle.protocol.specs.Needs.{frontUpdates}

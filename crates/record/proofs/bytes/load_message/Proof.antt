@@ -1,4 +1,4 @@
--- `record::bytes::load_message` meets its contract, by the kind that stands there. Assumes nothing.
+-- `record::bytes::load_message` meets its contract, by the kind that stands there.
 use mathlib.Core.Path.{sym, _∙_, ap}
 use borrow.Author.Tests.{ne-eqb}
 use borrow.Author.Needs.{needs}

@@ -1,4 +1,4 @@
--- `record::bytes::load_record` meets its contract: each field is what its load ensures. Assumes nothing.
+-- `record::bytes::load_record` meets its contract: each field is what its load ensures.
 use borrow.Author.Needs.{needs}
 use mir.ValLaws.{toZ-ofZ}
 use mir.Syntax.{w32}

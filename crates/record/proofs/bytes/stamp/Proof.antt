@@ -1,4 +1,4 @@
--- `record::bytes::stamp` meets its contract, variant by variant. Assumes nothing.
+-- `record::bytes::stamp` meets its contract, variant by variant.
 use mathlib.Core.Path.{sym, ap}
 use borrow.Author.Needs.{needs}
 use Rattle.protocol.specs.Record.{stampIn}

@@ -1,4 +1,4 @@
--- `record::bytes::store_fields` meets its contract: seven stores, the last first. Assumes nothing.
+-- `record::bytes::store_fields` meets its contract: seven stores, the last first.
 use mathlib.Core.Path.{_∙_}
 use borrow.Author.Needs.{needs}
 use mir.ValLaws.{toZ-ofZ}

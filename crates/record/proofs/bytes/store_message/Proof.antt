@@ -1,4 +1,4 @@
--- `record::bytes::store_message` meets its contract, variant by variant. Assumes nothing.
+-- `record::bytes::store_message` meets its contract, variant by variant.
 use mathlib.Core.Path.{_∙_}
 use borrow.Author.Needs.{needs}
 use mir.ValLaws.{toZ-ofZ}
@@ -10,7 +10,7 @@ use Rattle.record.proofs.Meaning.{message-told}
 use Rattle.record.proofs.bytes.store_message.Statement.{statement}
 use Rattle.record.proofs.bytes.store_message.Tie as tie
 
--- `record::bytes::store_message` meets its contract, variant by variant. Assumes nothing.
+-- `record::bytes::store_message` meets its contract, variant by variant.
 
 enum-known-message : tie.Need-enum-known-message
 enum-known-message c = search needs

@@ -1,4 +1,4 @@
--- `record::formed::message_formed` meets its contract, by the kind that stands there. Assumes nothing.
+-- `record::formed::message_formed` meets its contract, by the kind that stands there.
 use mathlib.Core.Path.{sym, _∙_}
 use borrow.Author.Tests.{ne-eqb}
 use Rattle.record.specs.RecordBytes.{messageAt}
@@ -29,8 +29,8 @@ returns-2 c =
     let kind = c .before .before .load-u8 .ensures in
     rw (ne-eqb _ 1 (λ e. c .before .if1 .left (kind ∙ e)), ne-eqb _ 2 (λ e. c .if2 .taken (kind ∙ e)))
 
-beat-formed-requires : tie.Need-beat-formed-requires
-beat-formed-requires c κs = search needs
+heartbeat-formed-requires : tie.Need-heartbeat-formed-requires
+heartbeat-formed-requires c κs = search needs
 
 add-load-u64 : tie.Need-add-load-u64
 add-load-u64 c = search needs
@@ -46,7 +46,7 @@ unfolding messageFormed messageAt messageLawful
 returns-3 c =
     let beat = c .before .before in
     let isBeat = sym (beat .before .before .before .load-u8 .ensures) ∙ beat .before .if2 .left in
-    rw (isBeat, beat .beat-formed .ensures, c .time-lawful .ensures, c .before .load-u64 .ensures)
+    rw (isBeat, beat .heartbeat-formed .ensures, c .time-lawful .ensures, c .before .load-u64 .ensures)
 
 pub message-formed-spec : {M : Type 1} → statement M
 message-formed-spec =
@@ -57,7 +57,7 @@ message-formed-spec =
     update-formed-requires
     returns
     returns-2
-    beat-formed-requires
+    heartbeat-formed-requires
     add-load-u64
     load-u64-requires
     time-lawful-requires

@@ -1,4 +1,4 @@
--- `record::formed::record_formed` meets its contract, by the kind that stands there. Assumes nothing.
+-- `record::formed::record_formed` meets its contract, by the kind that stands there.
 use mathlib.Core.Path.{sym, _∙_}
 use borrow.Author.Tests.{eq-eqb, ne-eqb}
 use Rattle.record.specs.RecordFormed.{recordFormed}

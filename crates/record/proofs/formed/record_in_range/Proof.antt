@@ -19,13 +19,13 @@ use Rattle.record.proofs.formed.record_in_range.Tie as tie
 -- ---- the tests, of the record that stands there
 
 abbrev setting : tie.Start → ℕ → Setting
-setting s parts = record { sites = s .args .sites; parts = parts }
+setting s partitions = record { sites = s .args .sites; partitions = partitions }
 
 abbrev there : tie.Start → Rec
 there s = recordAt (s .args .b .now) (s .args .at)
 
 abbrev tests : tie.Start → ℕ → List Bool
-tests s parts = fieldTests (setting s parts) (there s)
+tests s partitions = fieldTests (setting s partitions) (there s)
 
 -- ---- the needs
 
@@ -34,7 +34,7 @@ load-u8-requires c κs = search needs
 
 returns : tie.Need-returns
 unfolding recordInRange recordAt
-returns c = λ parts. sym (every-fails (tests (c .before .before .before) parts) 0 (rw (← c .before .load-u8 .ensures) (le-ltb _ 64 (c .if1 .taken))))
+returns c = λ partitions. sym (every-fails (tests (c .before .before .before) partitions) 0 (rw (← c .before .load-u8 .ensures) (le-ltb _ 64 (c .if1 .taken))))
 
 add-load-u8 : tie.Need-add-load-u8
 add-load-u8 c = search needs
@@ -44,7 +44,7 @@ load-u8-requires-2 c κs = search needs
 
 returns-2 : tie.Need-returns-2
 unfolding recordInRange recordAt
-returns-2 c = λ parts. sym (every-fails (tests (c .before .before .before .before .before) parts) 1 (rw (← c .before .load-u82 .ensures) (le-ltb _ _ (c .if2 .taken))))
+returns-2 c = λ partitions. sym (every-fails (tests (c .before .before .before .before .before) partitions) 1 (rw (← c .before .load-u82 .ensures) (le-ltb _ _ (c .if2 .taken))))
 
 add-load-u8-2 : tie.Need-add-load-u8-2
 add-load-u8-2 c = search needs
@@ -54,7 +54,7 @@ load-u8-requires-3 c κs = search needs
 
 returns-3 : tie.Need-returns-3
 unfolding recordInRange recordAt
-returns-3 c = λ parts. sym (every-fails (tests (c .before .before .before .before .before .before .before) parts) 2 (rw (← c .before .load-u83 .ensures) (le-ltb _ 3 (c .if3 .taken))))
+returns-3 c = λ partitions. sym (every-fails (tests (c .before .before .before .before .before .before .before) partitions) 2 (rw (← c .before .load-u83 .ensures) (le-ltb _ 3 (c .if3 .taken))))
 
 add-load-level : tie.Need-add-load-level
 add-load-level c = search needs
@@ -70,7 +70,7 @@ unfolding recordInRange recordAt
 returns-4 c =
     let got = c .before .before .load-level in
     let known = ap levelLawful (toZ-ofZ {w = w32} (record { sfits = got .ok }) ∙ got .ensures) in
-    λ parts. sym (every-fails (tests (c .before .before .before .before .before .before .before .before .before .before) parts) 3 (sym known ∙ fails (c .before .level-lawful .ensures) (c .if4 .taken)))
+    λ partitions. sym (every-fails (tests (c .before .before .before .before .before .before .before .before .before .before) partitions) 3 (sym known ∙ fails (c .before .level-lawful .ensures) (c .if4 .taken)))
 
 add-load-u64 : tie.Need-add-load-u64
 add-load-u64 c = search needs
@@ -83,7 +83,7 @@ time-lawful-requires c κs = search needs
 
 returns-5 : tie.Need-returns-5
 unfolding recordInRange recordAt
-returns-5 c = λ parts. sym (every-fails (tests (c .before .before .before .before .before .before .before .before .before .before .before .before .before) parts) 4 (rw (← c .before .before .load-u64 .ensures) (fails (c .before .time-lawful .ensures) (c .if5 .taken))))
+returns-5 c = λ partitions. sym (every-fails (tests (c .before .before .before .before .before .before .before .before .before .before .before .before .before) partitions) 4 (rw (← c .before .before .load-u64 .ensures) (fails (c .before .time-lawful .ensures) (c .if5 .taken))))
 
 add-vector-formed : tie.Need-add-vector-formed
 add-vector-formed c = search needs
@@ -103,9 +103,9 @@ returns-6 c =
     let got = levelled .before .before .load-level in
     let known = ap levelLawful (toZ-ofZ {w = w32} (record { sfits = got .ok }) ∙ got .ensures) in
     let r = there s in
-    λ parts.
-    c .vector-formed .ensures parts
-    ∙ sym (every-last (ltb (r .id .key) 64 ∷ ltb (r .id .source) (s .args .sites) ∷ ltb (r .quality) 3 ∷ levelLawful (r .level) ∷ timeLawful (r .id .stamp) ∷ []) (vecLawful (setting s parts) (r .carried)) (
+    λ partitions.
+    c .vector-formed .ensures partitions
+    ∙ sym (every-last (ltb (r .id .key) 64 ∷ ltb (r .id .source) (s .args .sites) ∷ ltb (r .quality) 3 ∷ levelLawful (r .level) ∷ timeLawful (r .id .stamp) ∷ []) (vecLawful (setting s partitions) (r .carried)) (
       rw (← keyed .before .load-u8 .ensures) (lt-ltb _ 64 (keyed .if1 .left)),
       (
         rw (← sourced .before .load-u82 .ensures) (lt-ltb _ _ (sourced .if2 .left)),

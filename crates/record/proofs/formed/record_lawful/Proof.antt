@@ -4,7 +4,7 @@ use mathlib.Core.Bool.{true}
 use lib.Dec.{eqb}
 use borrow.Author.Tests.{eq-eqb, ne-eqb}
 use borrow.Author.Needs.{needs}
-use Rattle.protocol.specs.Record.{partOf}
+use Rattle.protocol.specs.Record.{partitionOf}
 use Rattle.record.specs.RecordBytes.{recordAt}
 use Rattle.record.specs.Ranges.{recordLawful}
 use Rattle.record.proofs.formed.record_lawful.Statement.{statement}
@@ -17,7 +17,7 @@ partition-of-requires : tie.Need-partition-of-requires
 partition-of-requires c κs = search needs
 
 returns : tie.Need-returns
-unfolding recordLawful recordAt partOf
+unfolding recordLawful recordAt partitionOf
 returns c =
     let part = c .before .partition-of in
     rw (← c .before .before .load-u8 .ensures, ← part .ensures, ne-eqb (part .result) (c .before .before .before .before .args .p) (c .if1 .taken))
@@ -27,15 +27,15 @@ record-in-range-requires c κs = search needs
 
 -- the key is of the partition
 of-partition : (k : tie.Else1) → let a = k .before .before .before .before .args in
-    eqb (partOf (record { sites = a .sites; parts = a .parts }) (recordAt (a .b .now) (a .at) .id .key)) (a .p) ≡ true
-unfolding recordAt partOf
+    eqb (partitionOf (record { sites = a .sites; partitions = a .partitions }) (recordAt (a .b .now) (a .at) .id .key)) (a .p) ≡ true
+unfolding recordAt partitionOf
 of-partition k =
     let part = k .before .partition-of in
     rw (← k .before .before .load-u8 .ensures, ← part .ensures) (eq-eqb (part .result) (k .before .before .before .before .args .p) (k .if1 .left))
 
 returns-2 : tie.Need-returns-2
 unfolding recordLawful
-returns-2 c = rw (of-partition (c .before)) (c .record-in-range .ensures (c .before .before .before .before .before .args .parts))
+returns-2 c = rw (of-partition (c .before)) (c .record-in-range .ensures (c .before .before .before .before .before .args .partitions))
 
 pub record-lawful-spec : {M : Type 1} → statement M
 record-lawful-spec =

@@ -1,4 +1,4 @@
--- `record::times::entry_lawful` meets its contract, by the limit on either side of its test. Assumes nothing.
+-- `record::times::entry_lawful` meets its contract, by the limit on either side of its test.
 use mathlib.Core.Path.{_≡_, refl, sym, _∙_}
 use mathlib.Core.Bool.{Bool, true, false, cond}
 use Prim.Native.Nat.{ℕ}

@@ -1,4 +1,4 @@
--- `record::times::entry_limit` meets its contract, on either side of its test. Assumes nothing.
+-- `record::times::entry_limit` meets its contract, on either side of its test.
 use borrow.Author.Tests.{lt-ltb, le-ltb}
 use Rattle.record.proofs.times.entry_limit.Statement.{statement}
 use Rattle.record.proofs.times.entry_limit.Tie as tie

@@ -1,4 +1,4 @@
--- `record::times::time_lawful` meets its contract, as it is written. Assumes nothing.
+-- `record::times::time_lawful` meets its contract, as it is written.
 use borrow.Author.Needs.{needs}
 use Rattle.record.specs.Ranges.{timeLawful}
 use Rattle.record.proofs.times.time_lawful.Statement.{statement}

@@ -1,4 +1,4 @@
--- `record::times::vector_formed` meets its contract: what was loaded are the entries. Assumes nothing.
+-- `record::times::vector_formed` meets its contract: what was loaded are the entries.
 use Rattle.record.proofs.times.vector_formed.Statement.{statement}
 use Rattle.record.proofs.times.vector_formed.Tie as tie
 use borrow.Author.Needs.{needs}
@@ -10,7 +10,7 @@ vector-lawful-requires : tie.Need-vector-lawful-requires
 vector-lawful-requires c κs = search needs
 
 returns : tie.Need-returns
-returns c = λ parts. rw (c .vector-lawful .ensures parts, c .before .load-vector .ensures)
+returns c = λ partitions. rw (c .vector-lawful .ensures partitions, c .before .load-vector .ensures)
 
 pub vector-formed-spec : {M : Type 1} → statement M
 vector-formed-spec = tie.close (tie.spec load-vector-requires vector-lawful-requires returns)

@@ -1,4 +1,4 @@
--- `record::times::vector_lawful` meets its contract: the first i entries are lawful. Assumes nothing.
+-- `record::times::vector_lawful` meets its contract: the first i entries are lawful.
 use mathlib.Core.Path.{_≡_, sym}
 use mathlib.Core.Bool.{true, cond}
 use Prim.Native.Nat.{_-_, _≤_}
@@ -35,7 +35,7 @@ entry-lawful-requires c κs = search needs
 returns : tie.Need-returns Inv-loop μ-loop
 unfolding width entry vecLawful
 returns c =
-    λ parts.
+    λ partitions.
     let l = c .before .before .before in
     let no = fails (c .before .entry-lawful .ensures) (c .if1 .taken) in
     sym (allBelow-fails 4 _ (l .loop .i) (omega arith) no)
@@ -56,7 +56,7 @@ loop-again c =
 returns-2 : tie.Need-returns-2 Inv-loop μ-loop
 unfolding width vecLawful
 returns-2 c =
-    λ parts.
+    λ partitions.
     let l = c .before in
     let e : l .loop .i ≡ 4 = omega arith in
     sym (rw e at (l .loop .inv .1))

@@ -1,4 +1,4 @@
--- `steps::effects::carry_out` meets its contract, effect by effect. Assumes nothing.
+-- `steps::effects::carry_out` meets its contract, effect by effect.
 use mathlib.Core.Path.{_≡_, sym, _∙_}
 use native.Mathlib.Omega.{arith}
 use borrow.Author.Needs.{needs}
@@ -72,7 +72,7 @@ publish-requires c κs =
     let k = c .before .before in
     let s = k .before .before .before .before .before in
     let f = fits s _ (k .effect3 .given .1) .0 in
-    (s .pre .0, s .pre .1, s .pre .2, omega arith, f .part, f .room, f .ways)
+    (s .pre .0, s .pre .1, s .pre .2, omega arith, f .partition, f .room, f .ways)
 
 enum-known-effect-4 : tie.Need-enum-known-effect-4
 enum-known-effect-4 c = search needs
@@ -89,7 +89,7 @@ publish-requires-2 c κs =
     let k = c .before .before in
     let s = k .before .before .before .before .before in
     let f = fits s _ (k .effect4 .given .1) .0 in
-    (s .pre .0, s .pre .1, s .pre .2, omega arith, f .part, f .room, f .ways)
+    (s .pre .0, s .pre .1, s .pre .2, omega arith, f .partition, f .room, f .ways)
 
 cast-set-session-2 : tie.Need-cast-set-session-2
 cast-set-session-2 c = search needs
@@ -120,7 +120,7 @@ receive-requires c κs =
     let k = c .before .before in
     let s = k .before .before .before .before .before in
     let f = fits s _ (k .effect5 .given .1) .0 in
-    (s .pre .0, f .source, f .site, f .part, f .other, f .room, waits s _ (k .effect5 .given .1) .0)
+    (s .pre .0, f .source, f .site, f .partition, f .other, f .room, waits s _ (k .effect5 .given .1) .0)
 
 returns : tie.Need-returns
 unfolding changesOf putChanges

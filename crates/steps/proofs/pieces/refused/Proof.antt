@@ -1,4 +1,4 @@
--- `steps::pieces::refused` meets its contract. Assumes nothing.
+-- `steps::pieces::refused` meets its contract.
 use mathlib.Core.Path.{refl}
 use Rattle.protocol.specs.Event.{plain}
 use Rattle.steps.proofs.pieces.refused.Statement.{statement}

@@ -1,4 +1,4 @@
--- `steps::runs::number_for` meets its contract. Assumes nothing.
+-- `steps::runs::number_for` meets its contract.
 use borrow.Author.Tests.{eq-eqb, ne-eqb}
 use Rattle.steps.proofs.runs.number_for.Statement.{statement}
 use Rattle.steps.proofs.runs.number_for.Tie as tie

@@ -1,4 +1,4 @@
--- `steps::runs::piece` meets its contract, by the piece's length. Assumes nothing.
+-- `steps::runs::piece` meets its contract, by the piece's length.
 use mathlib.Core.Path.{sym, ap, _∙_}
 use Rattle.steps.specs.Step.{gives}
 use Rattle.steps.proofs.Kept.{piece-whole, piece-short}

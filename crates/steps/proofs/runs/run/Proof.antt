@@ -5,7 +5,7 @@ use mathlib.Core.Path.{_≡_, refl}
 use lib.ListN.{length}
 use Rattle.lawful.proofs.Steps.{Sound}
 use Rattle.steps.specs.Run.{ran, runBy, pieceCall}
-use Rattle.steps.proofs.Kept.{run-none, run-step, turned-sound}
+use Rattle.steps.proofs.Kept.{run-none, run-step, answered-sound}
 use Rattle.steps.proofs.runs.run.Statement.{statement}
 use Rattle.steps.proofs.runs.run.Tie as tie
 use borrow.Author.Needs.{needs}
@@ -21,8 +21,8 @@ loop-holds c =
     let a = c .before .before .before .args in
     (omega arith, record { size = refl; long = search needs; bytes = c .before .before .slice-known .given; formed = search needs }, refl, run-none pieceCall (a .t .now) (a .es .now) (a .b .now))
 
-turn-requires : tie.Need-turn-requires Inv-loop μ-loop
-turn-requires c κs = search needs
+answer-piece-requires : tie.Need-answer-piece-requires Inv-loop μ-loop
+answer-piece-requires c κs = search needs
 
 add-i : tie.Need-add-i Inv-loop μ-loop
 add-i c = search needs
@@ -32,11 +32,11 @@ loop-less c = search needs
 
 loop-again : tie.Need-loop-again Inv-loop μ-loop
 loop-again c =
-    let k = c .before .before .before .before .turn in
+    let k = c .before .before .before .before .answer-piece in
     let l = c .before .before .before .before .before .before .before .before in
     let a = l .before .before .before .before .args in (
       omega arith,
-      turned-sound _ (l .loop .t) (a .es .now) (l .loop .b) (l .loop .i) _ _ (k .ensures) (l .loop .inv .1),
+      answered-sound _ (l .loop .t) (a .es .now) (l .loop .b) (l .loop .i) _ _ (k .ensures) (l .loop .inv .1),
       omega arith,
       run-step pieceCall (a .t .now) (a .es .now) (a .b .now) (l .loop .i) (l .loop .t) (l .loop .b) _ _ (l .loop .inv .3) (k .ensures),
     )
@@ -60,7 +60,7 @@ run-spec =
     Inv-loop
     μ-loop
     loop-holds
-    turn-requires
+    answer-piece-requires
     add-i
     loop-less
     loop-again

@@ -1,4 +1,4 @@
--- `table::sites::publish` meets its contract, by what its two callees ensure. Assumes nothing.
+-- `table::sites::publish` meets its contract, by what its two callees ensure.
 use mathlib.Core.Path.{_∙_}
 use native.Mathlib.Omega.{arith}
 use borrow.Author.Needs.{needs}
@@ -8,7 +8,7 @@ use Rattle.table.proofs.Beside.{free-published}
 use Rattle.table.proofs.sites.publish.Statement.{statement}
 use Rattle.table.proofs.sites.publish.Tie as tie
 
--- `table::sites::publish` meets its contract, by what its two callees ensure. Assumes nothing.
+-- `table::sites::publish` meets its contract, by what its two callees ensure.
 
 publish-node-requires : tie.Need-publish-node-requires
 publish-node-requires c κs = search needs

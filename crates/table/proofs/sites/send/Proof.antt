@@ -1,4 +1,4 @@
--- `table::sites::send` meets its contract: the message is in the first d channels. Assumes nothing.
+-- `table::sites::send` meets its contract: the message is in the first d channels.
 use mathlib.Core.Path.{_≡_, refl, sym, _∙_}
 use Prim.Native.Nat.{_-_, _≤_}
 use native.Mathlib.Omega.{arith}

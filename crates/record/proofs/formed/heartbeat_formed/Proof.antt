@@ -1,4 +1,4 @@
--- `record::formed::beat_formed` meets its contract: behind a key of 0 the comparisons with it are those with 0. Assumes nothing.
+-- `record::formed::heartbeat_formed` meets its contract: behind a key of 0 the comparisons with it are those with 0.
 use mathlib.Core.Path.{_≡_, refl, sym, _∙_}
 use mathlib.Core.Bool.{Bool, _&&_, and-true}
 use mathlib.Core.List.{[], _∷_}
@@ -8,9 +8,9 @@ use Rattle.codec.specs.Below.{allBelow}
 use Rattle.codec.proofs.Below.{allBelow-ext}
 use Rattle.vector.specs.Vec.{width}
 use Rattle.vector.specs.Entries.{loadVec}
-use Rattle.record.specs.RecordFormed.{beatFormed}
-use Rattle.record.proofs.formed.beat_formed.Statement.{statement}
-use Rattle.record.proofs.formed.beat_formed.Tie as tie
+use Rattle.record.specs.RecordFormed.{heartbeatFormed}
+use Rattle.record.proofs.formed.heartbeat_formed.Statement.{statement}
+use Rattle.record.proofs.formed.heartbeat_formed.Tie as tie
 use Prim.Native.Nat.{ℕ, zero, suc, _+_}
 use native.Mathlib.Decide.{ℕ-discrete}
 use native.Mathlib.Omega.{arith}
@@ -65,7 +65,7 @@ none-above-requires : tie.Need-none-above-requires
 none-above-requires c κs = search needs
 
 returns : tie.Need-returns
-unfolding beatFormed
+unfolding heartbeatFormed
 returns c =
     let key = c .before .before .before .before .load-u8 in
     let a = c .before .before .before .before .before .before .args in
@@ -74,8 +74,8 @@ returns c =
     (c .none-above .ensures, c .before .load-u32 .ensures, c .before .before .load-u83 .ensures, c .before .before .before .load-u82 .ensures, key .ensures)
     (with-key (load 1 b (a .at)) (load 4 b (a .at + 4)) (loadVec b (a .at + 16)) (eqb (load 1 b (a .at + 1)) (a .i)) (eqb (load 1 b (a .at + 2)) 0))
 
-pub beat-formed-spec : {M : Type 1} → statement M
-beat-formed-spec =
+pub heartbeat-formed-spec : {M : Type 1} → statement M
+heartbeat-formed-spec =
     tie.close
     (tie.spec
     load-u8-requires

@@ -1,9 +1,9 @@
--- `steps::runs::turn_away` meets its contract: the number by the piece's length, and where the answer goes. Assumes nothing.
+-- `steps::runs::refuse_piece` meets its contract: the number by the piece's length, and where the answer goes.
 use mathlib.Core.Path.{ap, _∙_}
 use Rattle.steps.specs.Step.{refusedWith}
 use Rattle.steps.proofs.Kept.{away-by}
-use Rattle.steps.proofs.runs.turn_away.Statement.{statement}
-use Rattle.steps.proofs.runs.turn_away.Tie as tie
+use Rattle.steps.proofs.runs.refuse_piece.Statement.{statement}
+use Rattle.steps.proofs.runs.refuse_piece.Tie as tie
 use borrow.Author.Needs.{needs}
 
 event-of-requires : tie.Need-event-of-requires
@@ -34,8 +34,8 @@ returns c =
     away-by (a .number) (a .i) (a .es .now) (a .b .now) _ _ (r .refused .result) (x .event-of .ensures)
     (r .refused .ensures ∙ ap refusedWith (n .number-for .ensures)) (z .store-answer .ensures)
 
-pub turn-away-spec : {M : Type 1} → statement M
-turn-away-spec =
+pub refuse-piece-spec : {M : Type 1} → statement M
+refuse-piece-spec =
     tie.close
     (tie.spec
     event-of-requires

@@ -1,7 +1,7 @@
--- `steps::runs::turn` meets its contract: the piece that the reader gives, and where its answer goes. Assumes nothing.
-use Rattle.steps.proofs.Kept.{turned-by}
-use Rattle.steps.proofs.runs.turn.Statement.{statement}
-use Rattle.steps.proofs.runs.turn.Tie as tie
+-- `steps::runs::answer_piece` meets its contract: the piece that the reader gives, and where its answer goes.
+use Rattle.steps.proofs.Kept.{piece-answered}
+use Rattle.steps.proofs.runs.answer_piece.Statement.{statement}
+use Rattle.steps.proofs.runs.answer_piece.Tie as tie
 use borrow.Author.Needs.{needs}
 
 event-of-requires : tie.Need-event-of-requires
@@ -28,10 +28,10 @@ returns c =
     let y = z .before .before .before .before in
     let x = y .before in
     let a = x .before .before .before .before .before .args in
-    turned-by (a .i) (a .t .now) (a .es .now) (a .b .now) _ _ _ _ (x .event-of .ensures) (y .piece .ensures) (z .store-answer .ensures)
+    piece-answered (a .i) (a .t .now) (a .es .now) (a .b .now) _ _ _ _ (x .event-of .ensures) (y .piece .ensures) (z .store-answer .ensures)
 
-pub turn-spec : {M : Type 1} → statement M
-turn-spec =
+pub answer-piece-spec : {M : Type 1} → statement M
+answer-piece-spec =
     tie.close
     (tie.spec
     event-of-requires
