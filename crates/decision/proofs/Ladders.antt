@@ -8,7 +8,7 @@ use Rattle.vector.specs.Vec.{Vec}
 use Rattle.protocol.specs.Record.{partOf, Rec, Msg}
 use Rattle.protocol.specs.State.{Session, closed}
 use Rattle.protocol.specs.Event.{Event, OPEN, CLOSE, GET, BEGIN, READ, END}
-use Rattle.protocol.specs.View.{Place, ofSession, atSite, View, place, viewAt}
+use Rattle.protocol.specs.View.{ofSession, atSite, View, place, viewAt}
 use Rattle.protocol.specs.Step.{judged}
 use Rattle.protocol.proofs.Ladders.{openOf, open-judged, closeOf, close-judged, getOf, get-judged, beginOf, begin-judged, readOf, read-judged, endOf, end-judged}
 use Rattle.table.specs.Parts.{sessionOf, siteOf, nodeOf}

@@ -3,7 +3,7 @@
 use Prim.Native.Nat.{ℕ, max, _≤_, _<_}
 use native.Mathlib.Omega.{arith}
 use mathlib.Core.Path.{_≡_, refl, sym, subst, _∙_}
-use mathlib.Core.Bool.{Bool, true, false, not, _&&_, _||_}
+use mathlib.Core.Bool.{true, false, not, _&&_, _||_}
 use mathlib.Core.List.{List, []}
 use lib.Dec.{T, ltb, lt→ltb}
 use lib.IntN.{ℤ}

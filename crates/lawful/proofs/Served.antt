@@ -12,7 +12,7 @@ use lib.Dec.{T, leb, ltb, eqb}
 use lib.IntN.{ℤ}
 use lib.ListN.{length}
 use mir.Facts.{and-yes, or-yes, ltb-yes, leb-yes, eqb-yes, eqb-no}
-use Rattle.vector.specs.Vec.{Vec, zeros, larger, withEntry}
+use Rattle.vector.specs.Vec.{Vec, larger, withEntry}
 use Rattle.vector.proofs.Tests.{cond-elim}
 use Rattle.vector.proofs.Vec.{all-below-at}
 use Rattle.protocol.specs.Record.{Setting, partOf, Rec, Msg, Update, Beat, newest, ofKey, fitsPage, raisedBy}

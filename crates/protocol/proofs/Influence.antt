@@ -1,7 +1,7 @@
 -- What may influence a step, and that a refusal changes nothing. In order: what a step sees of its view and of a state, `influenced`; `refused-still`
 -- and `untouched`.
 use Prim.Native.Nat.{ℕ, zero, suc, _<_}
-use native.Mathlib.Nat.{mod-lt, mod-mod, mod-eq-of-lt}
+use native.Mathlib.Nat.{mod-mod, mod-eq-of-lt}
 use native.Mathlib.Omega.{arith}
 use mathlib.Core.Path.{_≡_, refl, sym, ap, _∙_}
 use mathlib.Core.Bool.{Bool, true, false, cond}
@@ -20,8 +20,9 @@ use Rattle.protocol.specs.Needs.{ranges, sendRoom, needs}
 use Rattle.protocol.specs.Change.{applyAll}
 use Rattle.protocol.specs.Serve.{Outcome, serve}
 use Rattle.protocol.specs.Step.{judge, judged, decide, step, next}
-use Rattle.protocol.specs.Promises.{IsPart, SiteAlike, Alike, Influenced, Untouched}
+use Rattle.protocol.specs.Promises.{SiteAlike, Alike, Influenced, Untouched}
 use Rattle.protocol.proofs.Judge.{Met, judge-same, step-elim}
+use Rattle.protocol.proofs.Reach.{part-is}
 
 -- ---- what a step sees of its view
 
@@ -40,10 +41,6 @@ within v = record {
 -- the session and the constants alone
 abbrev alone : Setting → Session → View
 alone c x = record { setting = c; session = x; clock = λ p. 0; heard = λ p. zeros; store = λ p. []; sent = λ p j. 0; front = [] }
-
-part-is : (c : Setting) (k : ℕ) → IsPart c (partOf c k)
-unfolding partOf
-part-is c k h = mod-lt k h
 
 -- the partition of a key, and one that an event names
 part-key : (c : Setting) (k : ℕ) → partOf c (partOf c k) ≡ partOf c k

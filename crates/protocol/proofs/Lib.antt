@@ -3,7 +3,7 @@ pub mod Order
 pub mod Search
 pub mod Shelf
 pub mod Judge
-pub mod Front
+pub mod Reach
 pub mod Ladders
 pub mod Invariant
 pub mod Network

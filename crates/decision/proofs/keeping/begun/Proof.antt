@@ -1,5 +1,4 @@
 -- `decision::keeping::begun` meets its contract: the session as it was, but for its page.
-use mathlib.Core.Bool.{false}
 use borrow.Author.Needs.{needs}
 use Rattle.protocol.specs.Serve.{begun}
 use Rattle.table.specs.Values.{asSession}

@@ -6,7 +6,6 @@ use Rattle.vector.specs.Entries.{entry}
 use Rattle.protocol.specs.Record.{newest, fitsPage}
 use Rattle.protocol.specs.Event.{READ}
 use Rattle.protocol.specs.Needs.{readReady}
-use Rattle.protocol.specs.Serve.{readOn}
 use Rattle.table.specs.Values.{asSession}
 use Rattle.table.specs.Decode.{settingIn, decode}
 use Rattle.decision.specs.Found.{foundOf}
