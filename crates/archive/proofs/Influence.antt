@@ -1,31 +1,28 @@
 -- What may influence a step, on bytes. In order: what a step's changes look at; refusals and the call.
 use Prim.Native.Nat.{ℕ, _<_}
-use native.Mathlib.Nat.{mod-lt}
 use native.Mathlib.Omega.{arith}
 use mathlib.Core.Path.{_≡_, refl, sym, ap, subst, _∙_}
 use mathlib.Core.Bool.{Bool, true, false, _&&_}
 use mathlib.Core.List.{List, [], _∷_}
 use lib.Dec.{T, eqb}
 use lib.ListN.{length}
-use mir.Facts.{and-yes, yes-and, ltb-yes}
+use mir.Facts.{and-yes, yes-and}
 use Rattle.codec.specs.Le.{Bytes}
-use Rattle.codec.proofs.Tests.{cond-elim, same-test}
-use Rattle.protocol.specs.Record.{Setting, partitionOf, Msg}
-use Rattle.protocol.specs.Event.{Event, OPEN, CLOSE, CLOCK, GET, PUT, BEGIN, READ, END, BEAT, DELIVER}
-use Rattle.protocol.specs.View.{view, place}
-use Rattle.protocol.specs.Needs.{ranges, beatSends, needs}
-use Rattle.protocol.specs.Change.{Receive}
-use Rattle.protocol.specs.Serve.{Outcome, taken, serve}
+use Rattle.codec.proofs.Tests.{same-test}
+use Rattle.protocol.specs.Record.{Msg}
+use Rattle.protocol.specs.Event.{Event}
+use Rattle.protocol.specs.View.{Place, ofSession, atSite, onChannel, place}
+use Rattle.protocol.specs.Change.{Change, SetSession, SetClock, Publish, Receive}
 use Rattle.protocol.specs.Step.{step}
 use Rattle.protocol.specs.Promises.{Alike}
-use Rattle.protocol.proofs.Judge.{Met, step-elim}
+use Rattle.protocol.proofs.Reach.{SiteOf, Reaches, Quiet, FirstReaches, step-reaches}
 use Rattle.protocol.proofs.Influence.{influenced}
 use Rattle.protocol.proofs.Influence as Protocol
 use Rattle.event.specs.Event.{codeLawful, eventOf}
 use Rattle.event.specs.Fields.{unusedZero}
 use Rattle.table.specs.Parts.{tableLength, Long}
 use Rattle.table.specs.Decode.{settingIn, decode}
-use Rattle.table.specs.Put.{putChanges}
+use Rattle.table.specs.Put.{putChange, putChanges}
 use Rattle.table.specs.Fits.{FitsAll}
 use Rattle.lawful.specs.WellFormed.{wellFormed}
 use Rattle.lawful.proofs.Facts.{formed}
@@ -39,36 +36,33 @@ use Rattle.archive.proofs.Changes.{Seen, SeenAll, twin-changes}
 
 -- ---- what its changes look at
 
-taken-seen : (t u : List ℕ) (i m p : ℕ) (l : List Msg) → ((x : Msg) → Seen (Receive i m p x) t u) → SeenAll (taken i m p l) t u
-unfolding taken
-taken-seen t u i m p [] f = tt
-taken-seen t u i m p (x ∷ l) f = (f x, tt)
-
 module _ (t u : List ℕ) (partitions : 0 < settingIn t .partitions) where
-  abbrev c : Setting
-  c = settingIn t
+  seen-from : (m p : ℕ) (x : Msg) (w : Place) → AgreeOn t u w → SiteOf (decode t) w m → p < settingIn t .partitions → Seen (Publish m p x) t u
+  unfolding Alike RingsAlike
+  seen-from m p x (ofSession s) a o g = subst (λ j. Seen (Publish j p x) t u) (o .1) (a .0 .2 (o .0), g, a .1 (o .0))
+  seen-from m p x (atSite j) a o g = subst (λ k. Seen (Publish k p x) t u) o (a .0, g, a .1)
+  seen-from m p x (onChannel i j q) a o g = absurd o
 
-  part-lt : (k : ℕ) → partitionOf c k < c .partitions
-  unfolding partitionOf
-  part-lt k = mod-lt k partitions
+  seen-first : (w : Place) (c : Change) → AgreeOn t u w → Reaches (decode t) w c → Seen c t u
+  unfolding Alike RingsAlike decode
+  seen-first w (SetSession s x) a r = tt
+  seen-first w (SetClock m p c) a r = tt
+  seen-first w (Publish m p x) a r = seen-from m p x w a (r .0) (r .1 partitions)
+  seen-first w (Receive i m p x) a r = let b = subst (AgreeOn t u) (r .place) a in (b .0 .0, r .partition, b .0 .1, b .1)
 
-  agree-serve : (e : Event) → AgreeOn t u (place e) → Met (ranges c e) → Met (needs (view (decode t) e) e) → SeenAll (serve (view (decode t) e) e .changes) t u
-  unfolding ranges serve needs Alike RingsAlike decode
-  agree-serve (OPEN s m) a r met = (tt, tt)
-  agree-serve (CLOSE s) a r met = (tt, tt)
-  agree-serve (CLOCK m p time) a r met = (tt, tt)
-  agree-serve (GET s k) a r met = (tt, tt)
-  agree-serve (PUT s k h l) a r met = ((a .0 .2 (met .0), part-lt k, a .1 (met .0)), (tt, tt))
-  agree-serve (BEGIN s p ks) a r met = (tt, tt)
-  agree-serve (READ s k) a r met = (tt, tt)
-  agree-serve (END s) a r met = (tt, tt)
-  agree-serve (BEAT m p) a r met =
-      cond-elim (λ cs. SeenAll cs t u) (beatSends (decode t .net .heard m p m) (decode t .net .clock m p)) (λ b. ((a .0, ltb-yes (r .1 .0), a .1), tt)) (λ b. tt)
-  agree-serve (DELIVER i m p) a r met = taken-seen t u i m p (decode t .net .chan i m p) (λ x. (a .0 .0, ltb-yes (r .1 .0), a .0 .1, a .1))
+quiet-seen : (cs : List Change) (t u : List ℕ) → Quiet cs → SeenAll cs t u
+quiet-seen [] t u q = tt
+quiet-seen (SetSession s x ∷ cs) t u q = (tt, quiet-seen cs (putChange (SetSession s x) t) (putChange (SetSession s x) u) q)
+quiet-seen (SetClock m p c ∷ cs) t u q = (tt, quiet-seen cs (putChange (SetClock m p c) t) (putChange (SetClock m p c) u) q)
+quiet-seen (Publish m p x ∷ cs) t u q = absurd q
+quiet-seen (Receive i m p x ∷ cs) t u q = absurd q
 
-  agree-seen : (e : Event) → AgreeOn t u (place e) → SeenAll (step (decode t) e .changes) t u
-  unfolding decode
-  agree-seen e a = step-elim (decode t) e (λ (o : Outcome). SeenAll (o .changes) t u) (λ w. tt) (λ r met. agree-serve e a r met)
+agree-seen : (t u : List ℕ) → 0 < settingIn t .partitions → (e : Event) → AgreeOn t u (place e) → SeenAll (step (decode t) e .changes) t u
+agree-seen t u partitions e a = go (step (decode t) e .changes) (step-reaches (decode t) e)
+  where
+    go : (cs : List Change) → FirstReaches (decode t) (place e) cs → SeenAll cs t u
+    go [] r = tt
+    go (c ∷ cs) r = (seen-first t u partitions (place e) c a (r .0), quiet-seen cs (putChange c t) (putChange c u) (r .1))
 
 -- ---- refusals and the call
 

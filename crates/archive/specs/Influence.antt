@@ -22,7 +22,7 @@ unfoldable pub NextAlike : List ℕ → List ℕ → (m : ℕ) → Type 0
 NextAlike t u m = (p d : ℕ) → p < settingIn t .partitions → d < settingIn t .sites - 1 →
     (frontIn (channelOf (siteOf t m) p d) + waitIn (channelOf (siteOf t m) p d)) % 8 ≡ (frontIn (channelOf (siteOf u m) p d) + waitIn (channelOf (siteOf u m) p d)) % 8
 
--- where messages go, and where the one to be delivered is
+-- where a message that the event sends goes, and where the one that it delivers is
 unfoldable pub RingsAlike : (t u : List ℕ) → Place → Type 0
 RingsAlike t u (ofSession s) = T (decode t .session s .isOpen) → NextAlike t u (decode t .session s .site)
 RingsAlike t u (atSite m) = NextAlike t u m

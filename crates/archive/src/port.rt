@@ -1,6 +1,5 @@
 // What C and Rust call: slices and numbers in, an answer's five values out.
 ghost use mathlib.Core.Path.{_≡_};
-ghost use Prim.Native.Nat.{ℕ};
 ghost use Rattle.steps.specs.Run.{ran};
 ghost use Rattle.archive.specs.Call.{setupCall, stepCall};
 ghost use Rattle.archive.specs.Run.{piecesOf, runCall};

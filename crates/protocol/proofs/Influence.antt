@@ -1,16 +1,16 @@
 -- What may influence a step, and that a refusal changes nothing. In order: what a step sees of its view and of a state, `influenced`; `refused-still`
 -- and `untouched`.
 use Prim.Native.Nat.{ℕ, zero, suc, _<_}
-use native.Mathlib.Nat.{mod-lt, mod-mod, mod-eq-of-lt}
+use native.Mathlib.Nat.{mod-mod, mod-eq-of-lt}
 use native.Mathlib.Omega.{arith}
 use mathlib.Core.Path.{_≡_, refl, sym, ap, _∙_}
 use mathlib.Core.Bool.{Bool, true, false, cond}
 use mathlib.Core.List.{List, []}
 use mathlib.Core.Option.{Option, some, none}
-use borrow.Author.Tests.{lt-ltb}
 use lib.Dec.{T, ltb}
 use lib.ListN.{length}
 use mir.Facts.{ltb-yes}
+use borrow.Author.Tests.{lt-ltb}
 use Rattle.codec.specs.Below.{allBelow}
 use Rattle.vector.specs.Vec.{zeros}
 use Rattle.protocol.specs.Record.{Setting, partitionOf, Rec, Msg}
@@ -21,8 +21,9 @@ use Rattle.protocol.specs.Needs.{ranges, sendRoom, needs}
 use Rattle.protocol.specs.Change.{applyAll}
 use Rattle.protocol.specs.Serve.{Outcome, serve}
 use Rattle.protocol.specs.Step.{judge, judged, decide, step, next}
-use Rattle.protocol.specs.Promises.{IsPart, SiteAlike, Alike, Influenced, Untouched}
+use Rattle.protocol.specs.Promises.{SiteAlike, Alike, Influenced, Untouched}
 use Rattle.protocol.proofs.Judge.{Met, judge-same, step-elim}
+use Rattle.protocol.proofs.Reach.{part-is}
 
 -- ---- what a step sees of its view
 
@@ -41,10 +42,6 @@ within v = record {
 -- the session and the constants alone
 abbrev alone : Setting → Session → View
 alone c x = record { setting = c; session = x; clock = λ p. 0; heard = λ p. zeros; store = λ p. []; sent = λ p j. 0; front = [] }
-
-part-is : (c : Setting) (k : ℕ) → IsPart c (partitionOf c k)
-unfolding partitionOf
-part-is c k h = mod-lt k h
 
 -- the partition of a key, and one that an event names
 part-key : (c : Setting) (k : ℕ) → partitionOf c (partitionOf c k) ≡ partitionOf c k

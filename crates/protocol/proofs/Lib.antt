@@ -4,7 +4,7 @@ pub mod Search
 pub mod Shelf
 pub mod Places
 pub mod Judge
-pub mod Front
+pub mod Reach
 pub mod Ladders
 pub mod Invariant
 pub mod Network

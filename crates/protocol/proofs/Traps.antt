@@ -1,7 +1,7 @@
 -- Four traps that replication falls into: for each, the protocol with that one rule changed, and a closed run on which it differs from ours. On
 -- the first three it also breaks demand 3.
 use Prim.Native.Nat.{ℕ}
-use mathlib.Core.Path.{_≡_, refl, subst}
+use mathlib.Core.Path.{_≡_, refl, ap, subst}
 use mathlib.Core.Bool.{Bool, not, _&&_}
 use mathlib.Core.List.{List, [], _∷_, _++_, List·Memᴰ·head, List·Memᴰ·tail, List·Memᴰ·eq-of-singleton, List·Memᴰ·not-nil}
 use mathlib.Core.Option.{Option, some, none}
@@ -34,45 +34,51 @@ ours = record { raises = raisedBy; fits = fitsPage; ready = putReady; carries = 
 unfoldable carrying : Rec → Vec → Rec
 carrying r v = record { id = r .id; quality = r .quality; level = r .level; carried = v }
 
-unfoldable decideBy : Rules → View → Event → Outcome
-decideBy R v (OPEN s m) = decide v (OPEN s m)
-decideBy R v (CLOSE s) = decide v (CLOSE s)
-decideBy R v (CLOCK m p t) = decide v (CLOCK m p t)
-decideBy R v (GET s k) =
+unfoldable judgedBy : Rules → View → Event → Outcome
+judgedBy R v (OPEN s m) = judged v (OPEN s m)
+judgedBy R v (CLOSE s) = judged v (CLOSE s)
+judgedBy R v (CLOCK m p t) = judged v (CLOCK m p t)
+judgedBy R v (GET s k) =
     let x = v .session in
     let o = newest (v .setting) (ofKey k) (v .store (partitionOf (v .setting) k)) in
-    judge (ranges (v .setting) (GET s k)) (judge (needs v (GET s k)) (shown o and SetSession s (withVec x (R .raises (x .vec) o)) ∷ []))
-decideBy R v (PUT s k q l) =
+    judge (needs v (GET s k)) (shown o and SetSession s (withVec x (R .raises (x .vec) o)) ∷ [])
+judgedBy R v (PUT s k q l) =
     let x = v .session in
     let p = partitionOf (v .setting) k in
     let t = v .clock p in
-    judge (ranges (v .setting) (PUT s k q l))
-    (judge (x .isOpen else 12 ∷ not (x .page .isOpen) else 14 ∷ storeRoom (v .store p) else 22 ∷ sendRoom v (x .site) p else 21 ∷ R .ready (x .vec) (v .heard p (x .site)) t else 3 ∷ [])
+    judge (x .isOpen else 12 ∷ not (x .page .isOpen) else 14 ∷ storeRoom (v .store p) else 22 ∷ sendRoom v (x .site) p else 21 ∷ R .ready (x .vec) (v .heard p (x .site)) t else 3 ∷ [])
     (Stamped (x .site) t and
     Publish (x .site) p (Update (carrying (written x k q l t) (R .carries x t))) ∷
-    SetSession s (withVec x (withEntry (x .vec) (x .site) t)) ∷ []))
-decideBy R v (BEGIN s p ks) = decide v (BEGIN s p ks)
-decideBy R v (READ s k) =
+    SetSession s (withVec x (withEntry (x .vec) (x .site) t)) ∷ [])
+judgedBy R v (BEGIN s p ks) = judged v (BEGIN s p ks)
+judgedBy R v (READ s k) =
     let x = v .session in
     let o = newest (v .setting) (R .fits k (x .page .vec)) (v .store (partitionOf (v .setting) k)) in
-    judge (ranges (v .setting) (READ s k)) (judge (needs v (READ s k)) (shown o and SetSession s (withPage x (readOn (x .page) k o)) ∷ []))
-decideBy R v (END s) = decide v (END s)
-decideBy R v (BEAT m p) = decide v (BEAT m p)
-decideBy R v (DELIVER i m p) = decide v (DELIVER i m p)
+    judge (needs v (READ s k)) (shown o and SetSession s (withPage x (readOn (x .page) k o)) ∷ [])
+judgedBy R v (END s) = judged v (END s)
+judgedBy R v (BEAT m p) = judged v (BEAT m p)
+judgedBy R v (DELIVER i m p) = judged v (DELIVER i m p)
+
+unfoldable decideBy : Rules → View → Event → Outcome
+decideBy R v e = judge (ranges (v .setting) e) (judgedBy R v e)
 
 -- with no rule changed it is ours
+ours-judged : (v : View) (e : Event) → judgedBy ours v e ≡ judged v e
+unfolding judgedBy ours carrying judged serve needs written
+ours-judged v (OPEN s m) = refl
+ours-judged v (CLOSE s) = refl
+ours-judged v (CLOCK m p t) = refl
+ours-judged v (GET s k) = refl
+ours-judged v (PUT s k q l) = refl
+ours-judged v (BEGIN s p ks) = refl
+ours-judged v (READ s k) = refl
+ours-judged v (END s) = refl
+ours-judged v (BEAT m p) = refl
+ours-judged v (DELIVER i m p) = refl
+
 ours-is : (v : View) (e : Event) → decideBy ours v e ≡ decide v e
-unfolding decideBy ours carrying decide judged serve needs written
-ours-is v (OPEN s m) = refl
-ours-is v (CLOSE s) = refl
-ours-is v (CLOCK m p t) = refl
-ours-is v (GET s k) = refl
-ours-is v (PUT s k q l) = refl
-ours-is v (BEGIN s p ks) = refl
-ours-is v (READ s k) = refl
-ours-is v (END s) = refl
-ours-is v (BEAT m p) = refl
-ours-is v (DELIVER i m p) = refl
+unfolding decideBy decide
+ours-is v e = ap (judge (ranges (v .setting) e)) (ours-judged v e)
 
 unfoldable logBy : Rules → State → List Event → List Line
 logBy R S [] = []
@@ -82,7 +88,7 @@ unfoldable four : Setting
 four = record { sites = 4; partitions = 4 }
 
 unfoldable past : Unit {0}
-unfolding computing ours carrying decideBy logBy four served shownIn shownOn sameId writerPast withPasts tell wrote noteServed note start retell history NoOlder Covers CoversAll
+unfolding computing ours carrying judgedBy decideBy logBy four served shownIn shownOn sameId writerPast withPasts tell wrote noteServed note start retell history NoOlder Covers CoversAll
 past = tt
 
 abbrev named : (key source stamp : ℕ) → Id

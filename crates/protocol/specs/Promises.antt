@@ -28,7 +28,7 @@ abbrev pub Conserved : Type 0
 Conserved = (c : Setting) (es : List Event) (i m p : ℕ) → i ≢ m → m < c .sites →
     count (puts i p) (setup c) es ≡ count (delivers i m p) (setup c) es + waiting (after (setup c) es .net .chan i m p)
 
--- INFLUENCE. p is a partition: every setup has one at least, and where there were none any number would do
+-- INFLUENCE. p is one of the partitions. Every setup has one at least; were there none, a key k would be at k mod 0, which is k, and any number would do
 abbrev pub IsPart : Setting → ℕ → Type 0
 IsPart c p = 0 < c .partitions → p < c .partitions
 

@@ -1,30 +1,38 @@
--- What a step takes off a channel is waiting there, in the channel's bytes: the protocol takes what is in front (protocol/proofs/Front).
+-- What a step takes off a channel is waiting there, in the channel's bytes: the protocol takes what is in front (protocol/proofs/Reach).
 use Prim.Native.Nat.{ℕ, _≤_, _<_}
 use native.Mathlib.Omega.{arith}
 use mathlib.Core.Path.{sym, ap, _∙_}
 use mathlib.Core.List.{List, [], _∷_}
 use lib.ListN.{length}
 use Rattle.protocol.specs.Event.{Event}
+use Rattle.protocol.specs.View.{Place, place}
 use Rattle.protocol.specs.Change.{Change, SetSession, SetClock, Publish, Receive}
 use Rattle.protocol.specs.Step.{step}
-use Rattle.protocol.proofs.Front.{FromFront, AllFromFront, takes-front}
+use Rattle.protocol.proofs.Reach.{Reaches, Quiet, FirstReaches, step-reaches}
 use Rattle.table.specs.Decode.{settingIn, decode}
 use Rattle.lawful.proofs.Fits.{chan-length}
 use Rattle.steps.specs.Waits.{WaitsFor, Waits}
 
 module _ (t : List ℕ) (few : settingIn t .sites ≤ 4) where
-  front-waits : (c : Change) → FromFront (decode t) c → WaitsFor c t
-  front-waits (SetSession s x) f = tt
-  front-waits (SetClock m p c) f = tt
-  front-waits (Publish m p x) f = tt
-  front-waits (Receive i m p x) f =
-      let site : m < settingIn t .sites = unfold decode in f .site in
-      let queue = sym (chan-length t i m p (omega arith) (f .other)) ∙ ap length (f .queue) in
+  first-waits : (w : Place) (c : Change) → Reaches (decode t) w c → WaitsFor c t
+  first-waits w (SetSession s x) r = tt
+  first-waits w (SetClock m p c) r = tt
+  first-waits w (Publish m p x) r = tt
+  first-waits w (Receive i m p x) r =
+      let site : m < settingIn t .sites = unfold decode in r .site in
+      let queue = sym (chan-length t i m p (omega arith) (r .other)) ∙ ap length (r .queue) in
       omega arith
 
-  all-wait : (cs : List Change) → AllFromFront (decode t) cs → Waits cs t
-  all-wait [] f = tt
-  all-wait (c ∷ cs) f = (front-waits c (f .0), all-wait cs (f .1))
+  quiet-waits : (cs : List Change) → Quiet cs → Waits cs t
+  quiet-waits [] q = tt
+  quiet-waits (SetSession s x ∷ cs) q = (tt, quiet-waits cs q)
+  quiet-waits (SetClock m p c ∷ cs) q = (tt, quiet-waits cs q)
+  quiet-waits (Publish m p x ∷ cs) q = absurd q
+  quiet-waits (Receive i m p x ∷ cs) q = absurd q
+
+  all-wait : (w : Place) (cs : List Change) → FirstReaches (decode t) w cs → Waits cs t
+  all-wait w [] r = tt
+  all-wait w (c ∷ cs) r = (first-waits w c (r .0), quiet-waits cs (r .1))
 
   pub step-waits : (e : Event) → Waits (step (decode t) e .changes) t
-  step-waits e = all-wait (step (decode t) e .changes) (takes-front (decode t) e)
+  step-waits e = all-wait (place e) (step (decode t) e .changes) (step-reaches (decode t) e)
