@@ -54,7 +54,7 @@ returns-2 c =
     let p = w .before .before .before in
     let a = p .before .before .before .before .args in (
       p .pieces-for .ensures,
-      k .answer-piece-all-away2 .ensures (a .table .now)
+      k .refuse-all2 .ensures (a .table .now)
           ∙ sym (run-ill (a .table .now) (a .events .now) (a .answers .now) (p .pieces-for .result) (search needs) (sym (w .well-formed .ensures) ∙ not-true _ (k .before .before .if2 .taken)))
           ∙ ap (λ n. runBy stepCall n (a .table .now) (a .events .now) (a .answers .now)) (p .pieces-for .ensures),
     )
