@@ -8,7 +8,6 @@ use lib.ListN.{length}
 use Rattle.codec.specs.Le.{load, put}
 use Rattle.codec.specs.Part.{Keeps}
 use Rattle.codec.proofs.Le.{load-put-other}
-use Rattle.vector.specs.Vec.{width}
 use Rattle.vector.proofs.Entries.{loadVec-below}
 use Rattle.protocol.specs.Record.{Msg, Update, Heartbeat, stampIn}
 use Rattle.protocol.specs.State.{Session}
@@ -146,7 +145,7 @@ SeenAll (c ∷ cs) t u = Seen c t u × SeenAll cs (putChange c t) (putChange c u
 
 module _ (t u : List ℕ) where
   same-sites : (m : ℕ) → AlikeAt t u m → load 1 t 0 ≡ load 1 u 0
-  unfolding decode settingIn
+  unfolding decode
   same-sites m a = ap (λ c. c .sites) (a .setting)
 
   same-held : (m p : ℕ) → p < settingIn t .partitions → AlikeAt t u m → heldIn (nodeOf (siteOf t m) p) ≡ heldIn (nodeOf (siteOf u m) p)
@@ -154,7 +153,7 @@ module _ (t u : List ℕ) where
   same-held m p g a = sym (store-length t m p) ∙ ap length (a .store p (λ o. g)) ∙ store-length u m p
 
   same-heard : (m p i : ℕ) → p < settingIn t .partitions → i < 4 → AlikeAt t u m → load 8 (nodeOf (siteOf t m) p) (8 + 8 * i) ≡ load 8 (nodeOf (siteOf u m) p) (8 + 8 * i)
-  unfolding decode heardIn width
+  unfolding decode heardIn
   same-heard m p i g h a = sym (loadVec-below (nodeOf (siteOf t m) p) 8 i h) ∙ a .heard p i (λ o. g) ∙ loadVec-below (nodeOf (siteOf u m) p) 8 i h
 
   -- as many messages wait from site i to site m
@@ -163,7 +162,7 @@ module _ (t u : List ℕ) where
   same-wait i m p h d e = sym (chan-length t i m p h d) ∙ e ∙ chan-length u i m p h d
 
   same-next : (m p d : ℕ) → m < load 1 t 0 → load 1 t 0 ≤ 4 → p < settingIn t .partitions → d < load 1 t 0 - 1 → AlikeAt t u m → NextAlike t u m → Next (channelOf (siteOf t m) p d) (channelOf (siteOf u m) p d)
-  unfolding NextAlike decode settingIn
+  unfolding NextAlike decode
   same-next m p d h few g b a next =
       let o = other-at (load 1 t 0) m d h b in
       let w = same-wait m (o .site) p (omega (arith, o .there)) (λ q. o .other (sym q)) (a .sent p (o .site) (λ y. g) (o .there)) in

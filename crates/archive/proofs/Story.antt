@@ -184,7 +184,6 @@ module _ (c : Setting) (l : T (settingLawful c)) (t : List ℕ) (long : length t
   run-sound es = after-sound (setUp c t) es setUp-sound
 
   few : c .sites ≤ width
-  unfolding width
   few = setting-facts c l .1
 
 -- ---- the promises

@@ -30,7 +30,7 @@ use Rattle.decision.proofs.Room.{roomy, store-room, send-room}
 use Rattle.decision.proofs.Ladders.{seenBy, session-says}
 
 pub site-there : (t : List ℕ) → T (wellFormed t) → (s : ℕ) → s < 16 → (x : Session) → x ≡ sessionIn (sessionOf t s) → x .isOpen ≡ true → x .site < load 1 t 0
-unfolding sessionLawful settingIn
+unfolding sessionLawful
 site-there t ok s h x e o =
     let c = settingIn t in
     let lawful = subst (λ y. T (sessionLawful c y)) (sym e) (formed t ok .session s h .lawful) in

@@ -19,7 +19,7 @@ use Rattle.protocol.specs.Needs.{storeRoom, sendRoom}
 use Rattle.parts.specs.Node.{heldIn, storeIn}
 use Rattle.parts.specs.Channel.{waitIn}
 use Rattle.table.specs.Parts.{placeOf, siteOf, nodeOf, channelOf}
-use Rattle.table.specs.Decode.{settingIn, decode}
+use Rattle.table.specs.Decode.{decode}
 use Rattle.table.proofs.Changes.{place-lt}
 use Rattle.lawful.proofs.Facts.{store-length}
 use Rattle.lawful.proofs.Fits.{Other, other-at, chan-length}
@@ -65,5 +65,5 @@ module _ (t : List ℕ) (m p : ℕ) (h : m < load 1 t 0) (few : load 1 t 0 ≤ 4
           subst (λ k. T (byPlace k)) (o .place) (subst T (site-place j (omega arith) (λ e. o .other (sym e))) free)
 
   pub send-room : (x : Session) (l : List Msg) → sendRoom (sight t x m l) m p ≡ roomy t m p
-  unfolding sendRoom roomy settingIn
+  unfolding sendRoom roomy
   send-room x l = same-test (allBelow (load 1 t 0) bySite) (allBelow (load 1 t 0 - 1) byPlace) sites-places places-sites

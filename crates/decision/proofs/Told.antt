@@ -16,11 +16,10 @@ use Rattle.lawful.specs.WellFormed.{wellFormed}
 use Rattle.decision.proofs.Formed.{session-here}
 
 pub count-told : (x : Session) (b : List ℕ) → asSession x ≡ sessionIn b → x .count ≡ load 1 b 3
-unfolding asSession sessionIn
+unfolding sessionIn
 count-told x b e = sym (tab-length (x .count) _) ∙ ap (λ (y : State.Session). length (y .page .marks)) e ∙ tab-length (load 1 b 3) _
 
 pub here-told : (x : Session) (t : List ℕ) → T (wellFormed t) → (s : ℕ) → s < 16 → asSession x ≡ sessionIn (sessionOf t s) → x .open ≡ true → x .site < 4
-unfolding asSession
 here-told x t w s h e o =
     let here = session-here t w s h (sym (ap (λ (y : State.Session). y .isOpen) e) ∙ o) in
     subst (λ m. m < 4) (sym (ap (λ (y : State.Session). y .site) e)) here

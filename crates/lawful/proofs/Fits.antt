@@ -60,7 +60,7 @@ room-for t m p (Heartbeat s) room = tt
 -- ---- changes
 
 pub lawful-fits : (c : Change) (t : List ℕ) → settingIn t .sites ≤ 4 → settingIn t .partitions ≤ 4 → Bytes t → Lawful c (decode t) → Fits c t
-unfolding decode settingIn
+unfolding decode
 lawful-fits (SetSession s x) t few few′ bytes ok = (ok .0, session-fits (settingIn t) x few (ok .1))
 lawful-fits (SetClock m p c) t few few′ bytes ok = (omega (arith, ok .0), omega (arith, ok .1), time-fits c (ok .2))
 lawful-fits (Publish m p x) t few few′ bytes ok = record {

@@ -66,7 +66,6 @@ module _ (t : List ℕ) (l : Long t) (F : Formed t) where
 
   module _ (m : ℕ) (f : List ℕ → List ℕ) (h : m < 4) (keeps : Keeps 13056 f) where
     same-setting : settingIn (onSite m f t) ≡ settingIn t
-    unfolding settingIn
     same-setting = λ z. record { sites = load-onSite t m f l h keeps 1 0 (omega arith) z; partitions = load-onSite t m f l h keeps 1 1 (omega arith) z }
 
     onSite-formed : Nodes (onSite m f t) → Ways (onSite m f t) → Formed (onSite m f t)
@@ -139,13 +138,13 @@ module _ (t : List ℕ) (l : Long t) (bytes : Bytes t) (F : Formed t) where
         published-kept (settingIn t) m p (F .sites) (ok .site) (ok .partition) x (nodeOf (siteOf t m) p) (length-nodeOf t m p l there part) (ok .msg) (fit-publish .room) (F .node m p there part)
 
     channel-published : (d : ℕ) → d < 3 → d < n → ChannelFacts (settingIn t) m p d (pushed m x (channelOf (siteOf t m) p d))
-    unfolding decode settingIn
+    unfolding decode
     channel-published d h g =
         let part = fit-publish .partition in
         pushed-kept (settingIn t) m p d (channelOf (siteOf t m) p d) (length-channelOf t m p l there part d h) x (fit-publish .ways d g) (F .sites) (ok .site) (ok .partition) g (ok .msg) (F .channel m p d there part h)
 
     publish-formed : Formed (putChange (Publish m p x) t)
-    unfolding putChange settingIn
+    unfolding putChange
     publish-formed =
         let c = settingIn t in
         let part = fit-publish .partition in

@@ -11,7 +11,7 @@ use borrow.Author.Count.{below-more}
 use borrow.Author.Tests.{lt-ltb}
 use Rattle.codec.specs.Le.{load, put, span, Apart}
 use Rattle.codec.proofs.Le.{length-put, load-put, load-put-other}
-use Rattle.vector.specs.Vec.{width, withEntry}
+use Rattle.vector.specs.Vec.{withEntry}
 use Rattle.vector.proofs.Entries.{loadVec-below, loadVec-beyond}
 use Rattle.protocol.specs.Record.{Setting, Rec, Msg, Update, Heartbeat, stampIn}
 use Rattle.record.specs.RecordBytes.{putRecord}
@@ -120,7 +120,7 @@ module _ (c : Setting) (m p : ℕ) where
     published-kept x n l ok room F = message-kept m (stampIn x) x n l site (stamp-lawful c m p x ok) ok room F
 
     pub received-kept : (i : ℕ) (x : Msg) (n : List ℕ) → length n ≡ 1856 → i < c .sites → LawfulMsg c i p x → Room x n → NodeFacts c m p n → NodeFacts c m p (received i x n)
-    unfolding received heardIn width
+    unfolding received heardIn
     received-kept i x n l h ok room F =
         let old = heard-lawful n F .below i in
         let is = loadVec-below n 8 i (omega arith) in

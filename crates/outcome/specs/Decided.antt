@@ -19,5 +19,5 @@ changesOf (Effect.Beat m p t) v x = Publish m p (Heartbeat t) ∷ []
 changesOf (Effect.Put s m p message) v x = Publish m p (messageOf message v) ∷ SetSession s (asSession x) ∷ []
 changesOf (Effect.Deliver i m p message) v x = Receive i m p (messageOf message v) ∷ []
 
-unfoldable pub outcomeOf : Decided → Outcome
+abbrev pub outcomeOf : Decided → Outcome
 outcomeOf d = d .answer and changesOf (d .effect) (d .carried) (d .session)

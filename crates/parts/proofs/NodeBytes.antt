@@ -12,7 +12,7 @@ use borrow.Author.Tests.{lt-ltb, eq-eqb, ne-eqb}
 use Rattle.codec.specs.Le.{load, put, span, Bytes}
 use Rattle.codec.proofs.Le.{length-put, load-put, load-put-other, load-lt}
 use Rattle.codec.proofs.Tabulate.{tab-ext, tab-more}
-use Rattle.vector.specs.Vec.{width, withEntry, atLeast}
+use Rattle.vector.specs.Vec.{withEntry, atLeast}
 use Rattle.vector.specs.Entries.{loadVec}
 use Rattle.vector.proofs.Entries.{with-later, loadVec-below}
 use Rattle.protocol.specs.Record.{Rec, Msg, Update, Heartbeat, stampIn, recordsIn}
@@ -48,7 +48,7 @@ module _ (n : List ℕ) (m v : ℕ) (l : length n ≡ 1856) (h : m < 4) where
   clock-entry = load-put-other 8 8 n (8 + 8 * m) v 0 (λ k a b c d. omega arith)
 
   heard-entry : v < span 8 → heardIn (put 8 n (8 + 8 * m) v) ≡ withEntry (heardIn n) m v
-  unfolding heardIn loadVec withEntry width
+  unfolding heardIn loadVec withEntry
   heard-entry b = fun-ext (λ i. go i (ℕ-discrete i m))
     where
       go : (i : ℕ) → Dec (i ≡ m) → cond (ltb i 4) (load 8 (put 8 n (8 + 8 * m) v) (8 + 8 * i)) 0 ≡ cond (eqb i m) v (cond (ltb i 4) (load 8 n (8 + 8 * i)) 0)
@@ -121,7 +121,7 @@ stamp-fits (Update r) h = h .stamp
 stamp-fits (Heartbeat t) h = h
 
 entry-heard : (n : List ℕ) (i : ℕ) → i < 4 → heardIn n i ≡ load 8 n (8 + 8 * i)
-unfolding heardIn width
+unfolding heardIn
 entry-heard n i h = loadVec-below n 8 i h
 
 -- a stamp in entry m, and the message stored

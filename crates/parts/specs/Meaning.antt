@@ -7,7 +7,7 @@ use Rattle.protocol.specs.State as State
 use Rattle.record.specs.declared.Message.the-variants as Message
 use Rattle.parts.specs.declared.Session.{Session}
 
-unfoldable pub asSession : Session → State.Session
+abbrev pub asSession : Session → State.Session
 asSession x = record {
   isOpen = x .open;
   site = x .site;

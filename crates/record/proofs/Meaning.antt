@@ -6,5 +6,4 @@ use Rattle.record.specs.declared.Letter.{Letter}
 
 -- what a letter says, once its message is known
 pub message-told : (x : Letter) (w : Message) → x .message ≡ w → asMessage x ≡ messageOf w (x .carried)
-unfolding asMessage
 message-told x w e = ap (λ y. messageOf y (x .carried)) e

@@ -58,7 +58,6 @@ vec-lawful c v ok =
     (λ i l. cond-elim T (ltb i (c .sites)) (λ h. yes-ltb (ok .below i)) (λ h. yes-eqb (ok .beyond i (ltb-no h))))
 
 pub vec-fits : (c : Setting) (v : Vec) → c .sites ≤ 4 → LawfulVec c v → FitsVec v
-unfolding width
 vec-fits c v few ok = record { below = λ i. time-fits (v i) (ok .below i); beyond = λ i h. ok .beyond i (omega arith) }
 
 module _ (c : Setting) where

@@ -16,7 +16,7 @@ use Rattle.codec.specs.Fields.{Field, field, putAll, Shows}
 use Rattle.codec.proofs.Le.{span-pos}
 use Rattle.codec.proofs.Fields.{length-putAll, load-putAll-other, shows}
 use Rattle.codec.proofs.Level.{levelFrom-bitsOf, bitsOf-lt}
-use Rattle.vector.specs.Vec.{width, zeros}
+use Rattle.vector.specs.Vec.{zeros}
 use Rattle.vector.specs.Entries.{loadVec, putVec}
 use Rattle.vector.proofs.Entries.{load-putVec-other, loadVec-putVec}
 use Rattle.protocol.specs.Record.{Rec, Msg, Update, Heartbeat}
@@ -30,7 +30,7 @@ cond-same true z e = e tt
 cond-same false z e = refl
 
 pub loadVec-ext : (s t : List ℕ) (at : ℕ) → ((i : ℕ) → i < 4 → load 8 s (at + 8 * i) ≡ load 8 t (at + 8 * i)) → loadVec s at ≡ loadVec t at
-unfolding loadVec width
+unfolding loadVec
 loadVec-ext s t at e = fun-ext (λ i. cond-same (ltb i 4) 0 (λ b. e i (ltb-yes b)))
 
 -- s and t are the same in the 48 bytes from `at`

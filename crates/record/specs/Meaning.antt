@@ -11,10 +11,10 @@ use Rattle.record.specs.declared.Message.the-variants as Message
 unfoldable pub asRecord : Record → Rec
 asRecord r = record { id = record { key = r .key; source = r .source; stamp = r .stamp }; quality = r .quality; level = r .level; carried = entry (r .carried .e) }
 
-unfoldable pub messageOf : Message → Vector → Msg
+abbrev pub messageOf : Message → Vector → Msg
 messageOf (Message.Update key source quality level stamp) v =
     Update (record { id = record { key = key; source = source; stamp = stamp }; quality = quality; level = level; carried = entry (v .e) })
 messageOf (Message.Heartbeat stamp) v = Heartbeat stamp
 
-unfoldable pub asMessage : Letter → Msg
+abbrev pub asMessage : Letter → Msg
 asMessage x = messageOf (x .message) (x .carried)

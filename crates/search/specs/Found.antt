@@ -8,7 +8,7 @@ use Rattle.protocol.specs.Search.{found}
 use Rattle.record.specs.Meaning.{asRecord}
 use Rattle.search.specs.declared.Found.{Found}
 
-unfoldable pub foundOf : Found → Option Rec
+abbrev pub foundOf : Found → Option Rec
 foundOf x = cond (x .found) (some (asRecord (x .reading))) none
 
 -- what fits a read of key k: on a page also that the carried vector is at most the page's

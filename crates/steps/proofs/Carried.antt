@@ -17,7 +17,6 @@ use Rattle.outcome.specs.declared.Effect.{Effect}
 use Rattle.outcome.specs.declared.Decided.{Decided}
 
 pub marks-few : (x : Session) → FitsSession (asSession x) → x .count ≤ 8
-unfolding asSession
 marks-few x fits =
     let mark : ℕ → Mark = λ i. record { key = getD (x .keys) i 0; read = getD (x .marks) i false } in
     omega (arith, fits .count, tab-length (x .count) mark)

@@ -31,11 +31,11 @@ module _ (t e : List ℕ) (x : Fields) (q : x ≡ fieldsIn e) (l : Lawful (setti
   session-in u = ltb-yes (used-in-range (settingIn t) e x q l n h session (omega arith) u)
 
   pub site-in : T (uses (n - 1) site) → x .site < load 1 t 0
-  unfolding inRange settingIn
+  unfolding inRange
   site-in u = ltb-yes (used-in-range (settingIn t) e x q l n h site (omega arith) u)
 
   pub part-in : T (uses (n - 1) partition) → x .partition < load 1 t 1
-  unfolding inRange settingIn
+  unfolding inRange
   part-in u = ltb-yes (used-in-range (settingIn t) e x q l n h partition (omega arith) u)
 
   pub count-in : T (uses (n - 1) count) → x .count ≤ 8
@@ -43,7 +43,7 @@ module _ (t e : List ℕ) (x : Fields) (q : x ≡ fieldsIn e) (l : Lawful (setti
   count-in u = leb-yes (and-yes (ltb 0 (x .count)) (leb (x .count) 8) (used-in-range (settingIn t) e x q l n h count (omega arith) u) .1)
 
   pub from-in : T (uses (n - 1) from) → (x .from < load 1 t 0) × (x .from ≡ x .site → ⊥)
-  unfolding inRange settingIn
+  unfolding inRange
   from-in u =
       let k = and-yes (ltb (x .from) (load 1 t 0)) (not (eqb (x .from) (x .site))) (used-in-range (settingIn t) e x q l n h from (omega arith) u) in
       (ltb-yes (k .0), λ z. T-not (eqb (x .from) (x .site)) (yes-eqb (x .from) (x .site) z) (k .1))

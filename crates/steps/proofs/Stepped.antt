@@ -76,7 +76,6 @@ step-unmet S e t = step-out-of-range S e (λ m. T-not (metBy S e) (is-met (range
 
 pub test-by : (t e : List ℕ) (sites partitions : ℕ) → sites ≡ load 1 t 0 → partitions ≡ load 1 t 1 →
     (unusedZero e && met (ranges (record { sites = sites; partitions = partitions }) (eventOf e))) ≡ fieldsTest t e
-unfolding settingIn
 test-by t e sites partitions a b = λ i. unusedZero e && met (ranges (record { sites = a i; partitions = b i }) (eventOf e))
 
 pub code-unlawful : (t e : List ℕ) → T (not (codeLawful e)) → stepOn t e ≡ refused 10 t
@@ -109,13 +108,10 @@ module _ (n : ℕ) (t e : List ℕ) (d : Decided) (S : Sound n t) (l : T (codeLa
   decided-step = step-met (decode t) (eventOf e) (unfold decode in (and-yes (unusedZero e) (met (ranges (settingIn t) (eventOf e))) f .1)) ∙ sym says
 
   pub decided-fits : FitsAll (changesOf (d .effect) (d .carried) (d .session)) t
-  unfolding outcomeOf
   decided-fits = subst (λ o. FitsAll (o .changes) t) decided-step (step-fits t (S .long) (S .bytes) (S .formed) (eventOf e))
 
   pub decided-waits : Waits (changesOf (d .effect) (d .carried) (d .session)) t
-  unfolding outcomeOf
   decided-waits = subst (λ o. Waits (o .changes) t) decided-step (step-waits t (formed t (S .formed) .sites) (eventOf e))
 
   pub decided-gives : stepOn t e ≡ gives (d .answer) (putChanges (changesOf (d .effect) (d .carried) (d .session)) t)
-  unfolding outcomeOf
   decided-gives = fields-lawful-step t e l f ∙ ap (λ o. gives (o .says) (putChanges (o .changes) t)) (sym says)

@@ -114,7 +114,6 @@ module _ (t t′ : List ℕ) (f : List ℕ → List ℕ) (g : List Msg → List 
 
 module _ (t : List ℕ) (m : ℕ) (f : List ℕ → List ℕ) (l : Long t) (h : m < 4) (keeps : Keeps 13056 f) where
   setting-site : settingIn (onSite m f t) ≡ settingIn t
-  unfolding settingIn
   setting-site = λ z. record { sites = load-onSite t m f l h keeps 1 0 (omega arith) z; partitions = load-onSite t m f l h keeps 1 1 (omega arith) z }
 
   sessions-site : (s : ℕ) → sessionIn (sessionOf (onSite m f t) s) ≡ sessionIn (sessionOf t s)
@@ -128,7 +127,7 @@ module _ (s : ℕ) (x : Session) (t : List ℕ) (l : Long t) (fit : Fits (SetSes
   length-setSession = length-onSession t s (putSession x) l (fit .0) (putSession-keeps x)
 
   setting-setSession : settingIn (putChange (SetSession s x) t) ≡ settingIn t
-  unfolding putChange settingIn
+  unfolding putChange
   setting-setSession = λ z. record {
     sites = load-onSession t s (putSession x) l (fit .0) (putSession-keeps x) 1 0 (omega arith) z;
     partitions = load-onSession t s (putSession x) l (fit .0) (putSession-keeps x) 1 1 (omega arith) z;
@@ -221,7 +220,7 @@ module _ (m p : ℕ) (x : Msg) (t : List ℕ) (l : Long t) (fit : FitsPublish m 
       T-not (isWay i j) (yes-way i j (omega (arith, fit .sites)) (λ e. all .3 (omega arith))) w)
 
   decode-publish : decode (putChange (Publish m p x) t) ≡ apply (Publish m p x) (decode t)
-  unfolding decode apply publish shelve settingIn putChange
+  unfolding decode apply publish shelve putChange
   decode-publish =
       let u = putChange (Publish m p x) t in
       let n = nodeOf (siteOf t m) p in

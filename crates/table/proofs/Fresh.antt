@@ -79,7 +79,7 @@ module _ (t : List ℕ) (blank : Every Zero t) (l : length t ≡ tableLength) (c
   length-set = length-put 1 (put 1 t 0 (c .sites)) 1 (c .partitions) ∙ length-put 1 t 0 (c .sites) ∙ l
 
   setting-set : settingIn (put 1 (put 1 t 0 (c .sites)) 1 (c .partitions)) ≡ c
-  unfolding settingIn span
+  unfolding span
   setting-set =
       let sites = load-put-other 1 1 (put 1 t 0 (c .sites)) 1 (c .partitions) 0 (λ k u v x y. omega arith) ∙ load-put 1 t 0 (c .sites) (omega arith) h in
       let partitions = load-put 1 (put 1 t 0 (c .sites)) 1 (c .partitions) (omega (arith, length-put 1 t 0 (c .sites))) h′ in

@@ -12,7 +12,7 @@ use Rattle.parts.specs.Session.{sessionIn}
 use Rattle.table.specs.Parts.{placeOf, sessionOf, siteOf, nodeOf, channelOf}
 
 -- byte 0 the number of sites, byte 1 the number of partitions
-unfoldable pub settingIn : List ℕ → Setting
+abbrev pub settingIn : List ℕ → Setting
 settingIn t = record { sites = load 1 t 0; partitions = load 1 t 1 }
 
 unfoldable pub decode : List ℕ → State

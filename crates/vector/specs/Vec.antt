@@ -6,7 +6,7 @@ use lib.Dec.{leb, eqb}
 use Rattle.codec.specs.Below.{allBelow}
 
 -- "A vector has four entries and an all-zero start"
-unfoldable pub width : ℕ
+abbrev pub width : ℕ
 width = 4
 
 abbrev pub Vec : Type 0

@@ -6,7 +6,6 @@ use lib.Dec.{T, leb, ltb}
 use mir.Facts.{and-yes, ltb-yes}
 use Rattle.codec.proofs.Tests.{fails, passes}
 use Rattle.protocol.specs.Record.{Setting}
-use Rattle.table.specs.Decode.{settingIn}
 use Rattle.lawful.specs.Values.{settingLawful}
 use Rattle.lawful.specs.WellFormed.{wellFormed}
 use Rattle.lawful.proofs.well_formed.Statement.{statement}
@@ -30,7 +29,7 @@ setting-lawful-requires : tie.Need-setting-lawful-requires
 setting-lawful-requires c κs = search needs
 
 returns : tie.Need-returns
-unfolding wellFormed settingIn
+unfolding wellFormed
 returns c =
     let no = fails (c .before .setting-lawful .ensures) (c .if1 .taken) in
     let loads = c .before .before in
@@ -40,7 +39,7 @@ sessions-formed-requires : tie.Need-sessions-formed-requires
 sessions-formed-requires c κs = search needs
 
 returns-2 : tie.Need-returns-2
-unfolding wellFormed settingIn
+unfolding wellFormed
 returns-2 c =
     let at = c .before .before in
     let yes = passes (at .before .setting-lawful .ensures) (at .if1 .left) in
@@ -56,7 +55,7 @@ sites-formed-requires c κs =
     (search needs, parts-some _ yes)
 
 returns-3 : tie.Need-returns-3
-unfolding wellFormed settingIn
+unfolding wellFormed
 returns-3 c =
     let at = c .before .before .before in
     let yes = passes (at .before .setting-lawful .ensures) (at .if1 .left) in

@@ -10,7 +10,7 @@ use Rattle.protocol.proofs.Places.{newest-none, newest-some}
 use Rattle.record.specs.RecordBytes.{recordAt}
 use Rattle.record.specs.Meaning.{asRecord}
 use Rattle.parts.specs.Node.{slotAt, heldIn, storeIn}
-use Rattle.search.specs.Found.{fitsRead, foundOf}
+use Rattle.search.specs.Found.{fitsRead}
 use Rattle.search.proofs.newest.Statement.{statement}
 use Rattle.search.proofs.newest.Tie as tie
 use borrow.Author.Needs.{needs}
@@ -29,7 +29,7 @@ place-of : (k : tie.After-newest-place) (d : Setting) → k .newest-place .resul
 place-of k d = k .newest-place .ensures .1 d ∙ ap (newestPlace d _ _) (k .before .held .ensures)
 
 returns : tie.Need-returns
-unfolding foundOf storeIn
+unfolding storeIn
 returns c =
     let k = c .before in
     let a = k .before .before .before .args in
@@ -48,7 +48,7 @@ load-record-requires : tie.Need-load-record-requires
 load-record-requires c κs = search needs
 
 returns-2 : tie.Need-returns-2
-unfolding foundOf storeIn asRecord
+unfolding storeIn asRecord
 returns-2 c =
     let e = c .before in
     let k = e .before in

@@ -53,7 +53,6 @@ ten : (c : tie.At-match2-rest) → c .before .before .load-fields .result .code 
 ten c = let k = code-ok (c .before .before) in omega arith
 
 parts-few : (f : tie.After-load-fields) → load 1 (f .before .before .before .args .t .now) 1 ≤ 4
-unfolding settingIn
 parts-few f = formed (f .before .before .before .args .t .now) (f .before .before .before .pre .1) .partitions
 
 -- ---- by the code

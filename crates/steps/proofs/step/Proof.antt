@@ -4,7 +4,6 @@ use mathlib.Core.Bool.{true}
 use lib.ListN.{length}
 use borrow.Author.Tests.{not-true, not-false}
 use Rattle.event.specs.Event.{codeLawful}
-use Rattle.table.specs.Decode.{settingIn}
 use Rattle.lawful.proofs.Facts.{formed}
 use Rattle.lawful.proofs.Steps.{Sound}
 use Rattle.steps.specs.Step.{gives, fieldsTest}
@@ -81,7 +80,6 @@ decide-requires c κs =
     (p .0, p .1, p .2, code-true (tested f), fields-true (c .before))
 
 carry-out-requires : tie.Need-carry-out-requires
-unfolding settingIn
 carry-out-requires c κs =
     let d = c .before .decide in
     let n = c .before .before .before in

@@ -3,7 +3,6 @@ use mathlib.Core.Path.{refl}
 use native.Mathlib.Nat.{mod-lt}
 use native.Mathlib.Omega.{arith}
 use Rattle.protocol.specs.Record.{partitionOf}
-use Rattle.table.specs.Decode.{settingIn}
 use Rattle.decision.proofs.Formed.{parts-some, parts-at-most}
 use Rattle.decision.proofs.lookup.partition.Statement.{statement}
 use Rattle.decision.proofs.lookup.partition.Tie as tie
@@ -13,13 +12,12 @@ load-u8-requires : tie.Need-load-u8-requires
 load-u8-requires c κs = search needs
 
 partition-of-requires : tie.Need-partition-of-requires
-unfolding settingIn
 partition-of-requires c κs =
     let s = c .before .before in
     omega (arith, c .load-u8 .ensures, parts-some (s .args .t .now) (s .pre .1))
 
 returns : tie.Need-returns
-unfolding partitionOf settingIn
+unfolding partitionOf
 returns c =
     let s = c .before .before .before in
     let some = parts-some (s .args .t .now) (s .pre .1) in

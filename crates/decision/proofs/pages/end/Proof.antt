@@ -38,7 +38,7 @@ loaded c = c .before .before .before .before .before .before .before .before .be
 -- without its page, and raised by what that gathered
 raised : (w : tie.After-ended) → let x = loaded (w .before .before) .session .result in
     asSession (w .ended .result) ≡ withPage (withVec (asSession x) (larger (entry (x .vec .e)) (entry (x .gathered .e)))) noPage
-unfolding asSession loaded
+unfolding loaded
 raised w =
     let x = loaded (w .before .before) .session .result in
     w .ended .ensures
@@ -54,7 +54,6 @@ refused-requires : tie.Need-refused-requires
 refused-requires c κs = search needs
 
 returns : tie.Need-returns
-unfolding asSession
 returns c =
     let k = c .before .before .before in
     c .refused .ensures ∙ sym (says k ∙ rw (not-true (k .session .result .open) (c .before .if1 .taken)))
@@ -63,7 +62,6 @@ refused-requires-2 : tie.Need-refused-requires-2
 refused-requires-2 c κs = search needs
 
 returns-2 : tie.Need-returns-2
-unfolding asSession
 returns-2 c =
     let e = c .before .before .before in
     let k = e .before .before in
@@ -79,7 +77,6 @@ refused-requires-3 : tie.Need-refused-requires-3
 refused-requires-3 c κs = search needs
 
 returns-3 : tie.Need-returns-3
-unfolding asSession
 returns-3 c =
     let u = c .before .before in
     let e2 = u .before .before .before in
@@ -99,7 +96,7 @@ kept-requires : tie.Need-kept-requires
 kept-requires c κs = search needs
 
 returns-4 : tie.Need-returns-4
-unfolding asSession loaded
+unfolding loaded
 returns-4 c =
     let w = c .before in
     let e3 = w .before .before .before in

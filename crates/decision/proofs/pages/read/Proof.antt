@@ -63,7 +63,6 @@ refused-requires : tie.Need-refused-requires
 refused-requires c κs = search needs
 
 returns : tie.Need-returns
-unfolding asSession
 returns c =
     let k = c .before .before .before in
     c .refused .ensures ∙ sym (says k ∙ rw (not-true (k .session .result .open) (c .before .if1 .taken)))
@@ -72,7 +71,6 @@ refused-requires-2 : tie.Need-refused-requires-2
 refused-requires-2 c κs = search needs
 
 returns-2 : tie.Need-returns-2
-unfolding asSession
 returns-2 c =
     let e = c .before .before .before in
     let k = e .before .before in
@@ -88,7 +86,6 @@ refused-requires-3 : tie.Need-refused-requires-3
 refused-requires-3 c κs = search needs
 
 returns-3 : tie.Need-returns-3
-unfolding asSession
 returns-3 c =
     let u = c .before .before in
     let e2 = u .before .before .before .before in
@@ -111,7 +108,7 @@ refused-requires-4 : tie.Need-refused-requires-4
 refused-requires-4 c κs = search needs
 
 returns-4 : tie.Need-returns-4
-unfolding asSession loaded
+unfolding loaded
 returns-4 c =
     let r = c .before .before in
     let e3 = r .before .before .before .before in
@@ -137,7 +134,7 @@ kept-requires : tie.Need-kept-requires
 kept-requires c κs = search needs
 
 returns-5 : tie.Need-returns-5
-unfolding asSession loaded
+unfolding loaded
 returns-5 c =
     let w = c .before in
     let n = w .before .before in

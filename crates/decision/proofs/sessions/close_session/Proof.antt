@@ -26,7 +26,6 @@ refused-requires : tie.Need-refused-requires
 refused-requires c κs = search needs
 
 returns : tie.Need-returns
-unfolding asSession
 returns c =
     let k = c .before .before .before in
     c .refused .ensures ∙ sym (says k ∙ rw (not-true (k .session .result .open) (c .before .if1 .taken)))
@@ -38,7 +37,6 @@ kept-requires : tie.Need-kept-requires
 kept-requires c κs = search needs
 
 returns-2 : tie.Need-returns-2
-unfolding asSession
 returns-2 c =
     let e = c .before .before in
     let k = e .before .before in

@@ -59,7 +59,6 @@ refused-requires : tie.Need-refused-requires
 refused-requires c κs = search needs
 
 returns : tie.Need-returns
-unfolding asSession
 returns c =
     let k = c .before .before .before in
     c .refused .ensures ∙ sym (says k ∙ rw (not-true (k .session .result .open) (c .before .if1 .taken)))
@@ -68,7 +67,6 @@ refused-requires-2 : tie.Need-refused-requires-2
 refused-requires-2 c κs = search needs
 
 returns-2 : tie.Need-returns-2
-unfolding asSession
 returns-2 c =
     let e = c .before .before in
     c .refused2 .ensures ∙ sym (says (e .before .before) ∙ rw (is-open e, c .before .if2 .taken))
@@ -92,7 +90,7 @@ refused-requires-3 : tie.Need-refused-requires-3
 refused-requires-3 c κs = search needs
 
 returns-3 : tie.Need-returns-3
-unfolding asSession loaded
+unfolding loaded
 returns-3 c =
     let u = c .before .before in
     let e2 = u .before .before .before .before in
@@ -115,7 +113,7 @@ kept-requires : tie.Need-kept-requires
 kept-requires c κs = search needs
 
 returns-4 : tie.Need-returns-4
-unfolding asSession loaded
+unfolding loaded
 returns-4 c =
     let w = c .before in
     let n = w .before .before in

@@ -25,7 +25,6 @@ refused-requires : tie.Need-refused-requires
 refused-requires c κs = search needs
 
 returns : tie.Need-returns
-unfolding asSession
 returns c = c .refused .ensures ∙ sym (says (c .before .before) ∙ rw (c .before .if1 .taken))
 
 opened-requires : tie.Need-opened-requires
@@ -35,7 +34,6 @@ kept-requires : tie.Need-kept-requires
 kept-requires c κs = search needs
 
 returns-2 : tie.Need-returns-2
-unfolding asSession
 returns-2 c =
     let e = c .before .before in
     c .kept .ensures ∙ ap (keeps Answer.Done _) (c .before .opened .ensures) ∙ sym (says (e .before) ∙ rw (e .if1 .left))

@@ -7,9 +7,8 @@ use borrow.Author.Tests.{lt-ltb, le-ltb, not-true, not-false}
 use lib.Dec.{ltb}
 use Rattle.parts.specs.Node.{clockIn, heardIn}
 use Rattle.table.specs.Parts.{siteOf, nodeOf}
-use Rattle.table.specs.Decode.{settingIn}
 use Rattle.lawful.proofs.Facts.{Formed, formed}
-use Rattle.outcome.specs.Decided.{changesOf, outcomeOf}
+use Rattle.outcome.specs.Decided.{changesOf}
 use Rattle.decision.proofs.Room.{roomy}
 use Rattle.decision.proofs.Times.{beat-answered}
 use Rattle.decision.proofs.writes.beat.Statement.{statement}
@@ -19,14 +18,12 @@ known : (s : tie.Start) → Formed (s .args .t .now)
 known s = formed (s .args .t .now) (s .pre .1)
 
 node-requires : tie.Need-node-requires
-unfolding settingIn
 node-requires c κs = let F = known (c .before) in (omega arith, omega arith, omega arith)
 
 clock-requires : tie.Need-clock-requires
 clock-requires c κs = search needs
 
 own-requires : tie.Need-own-requires
-unfolding settingIn
 own-requires c κs = let F = known (c .before .before .before) in (omega arith, omega arith, omega arith)
 
 -- whether the clock is greater than entry m, by the values loaded
@@ -43,7 +40,7 @@ done-requires : tie.Need-done-requires
 done-requires c κs = search needs
 
 returns : tie.Need-returns
-unfolding outcomeOf changesOf settingIn sends
+unfolding changesOf sends
 returns c =
     let k = c .before .before in
     let s = k .before .before .before .before in
@@ -51,14 +48,13 @@ returns c =
     rw (c .done .ensures .0, c .done .ensures .1, beat-answered (s .args .t .now) (s .args .m) (s .args .p) (s .pre .2) (known s .sites), e)
 
 has-room-requires : tie.Need-has-room-requires
-unfolding settingIn
 has-room-requires c κs = let F = known (c .before .before .before .before .before) in (omega arith, omega arith, omega arith, omega arith, omega arith)
 
 refused-requires : tie.Need-refused-requires
 refused-requires c κs = search needs
 
 returns-2 : tie.Need-returns-2
-unfolding settingIn sends roomy
+unfolding sends roomy
 returns-2 c =
     let r = c .before .before in
     let k = r .before .before in
@@ -71,7 +67,7 @@ done-requires-2 : tie.Need-done-requires-2
 done-requires-2 c κs = search needs
 
 returns-3 : tie.Need-returns-3
-unfolding outcomeOf changesOf settingIn sends roomy
+unfolding changesOf sends roomy
 returns-3 c =
     let r = c .before .before in
     let k = r .before .before in

@@ -5,15 +5,13 @@ use borrow.Author.Needs.{needs}
 use borrow.Author.Tests.{le-leb, lt-leb}
 use Rattle.parts.specs.Node.{clockIn}
 use Rattle.table.specs.Parts.{siteOf, nodeOf}
-use Rattle.table.specs.Decode.{settingIn}
 use Rattle.lawful.proofs.Facts.{formed}
-use Rattle.outcome.specs.Decided.{changesOf, outcomeOf}
+use Rattle.outcome.specs.Decided.{changesOf}
 use Rattle.decision.proofs.Times.{clock-answered}
 use Rattle.decision.proofs.writes.clock.Statement.{statement}
 use Rattle.decision.proofs.writes.clock.Tie as tie
 
 node-requires : tie.Need-node-requires
-unfolding settingIn
 node-requires c κs =
     let s = c .before in
     let F = formed (s .args .t .now) (s .pre .1) in
@@ -40,7 +38,7 @@ done-requires : tie.Need-done-requires
 done-requires c κs = search needs
 
 returns-2 : tie.Need-returns-2
-unfolding outcomeOf changesOf
+unfolding changesOf
 returns-2 c =
     let k = c .before .before in
     let a = k .before .before .before .args in

@@ -13,7 +13,7 @@ use Rattle.protocol.proofs.Ladders.{refuse}
 use Rattle.record.specs.Meaning.{asMessage}
 use Rattle.parts.specs.Channel.{waitIn}
 use Rattle.table.specs.Parts.{placeOf, siteOf, channelOf}
-use Rattle.table.specs.Decode.{settingIn, decode}
+use Rattle.table.specs.Decode.{decode}
 use Rattle.lawful.proofs.Facts.{Formed, formed}
 use Rattle.decision.specs.Answered.{answered}
 use Rattle.decision.proofs.Deliver.{firstIn, deliver-none, deliver-first}
@@ -28,11 +28,9 @@ abbrev chan : tie.Start → List ℕ
 chan s = channelOf (siteOf (s .args .t .now) (s .args .i)) (s .args .p) (placeOf (s .args .i) (s .args .m))
 
 place-of-requires : tie.Need-place-of-requires
-unfolding settingIn
 place-of-requires c κs = let F = known (c .before) in (omega arith, omega arith, c .before .pre .4)
 
 channel-requires : tie.Need-channel-requires
-unfolding settingIn
 channel-requires c κs = let F = known (c .before .before) in (omega arith, omega arith, omega arith, omega arith)
 
 lent : (c : tie.After-channel) → c .channel .result .now ≡ chan (c .before .before .before)
@@ -50,7 +48,6 @@ refused-requires : tie.Need-refused-requires
 refused-requires c κs = search needs
 
 returns : tie.Need-returns
-unfolding settingIn
 returns c =
     let w = c .before .before in
     let s = w .before .before .before .before in
@@ -65,7 +62,6 @@ is-update-requires : tie.Need-is-update-requires
 is-update-requires c κs = search needs
 
 has-slot-requires : tie.Need-has-slot-requires
-unfolding settingIn
 has-slot-requires c κs = let F = known (c .before .before .before .before .before .before .before) in (omega arith, omega arith, omega arith)
 
 -- the letter that was read is the channel's first
@@ -76,7 +72,6 @@ read c = c .first .ensures ∙ ap firstIn (lent (c .before .before .before))
 first-answered : (c : tie.After-has-slot) → let s = c .before .before .before .before .before .before .before .before in
     answered (decode (s .args .t .now)) (DELIVER (s .args .i) (s .args .m) (s .args .p))
     ≡ cond (c .before .is-update .result && not (c .has-slot .result)) (refuse 22) (Done and Receive (s .args .i) (s .args .m) (s .args .p) (asMessage (c .before .before .first .result)) ∷ [])
-unfolding settingIn
 first-answered c =
     let f = c .before .before in
     let w = f .before .before in

@@ -31,7 +31,6 @@ refused-requires : tie.Need-refused-requires
 refused-requires c κs = search needs
 
 returns : tie.Need-returns
-unfolding asSession
 returns c =
     let x = c .before .before .before .session in
     let a = c .before .before .before .before .before .args in
@@ -41,7 +40,6 @@ refused-requires-2 : tie.Need-refused-requires-2
 refused-requires-2 c κs = search needs
 
 returns-2 : tie.Need-returns-2
-unfolding asSession
 returns-2 c =
     let k = c .before .before in
     let x = k .before .before .session in
@@ -50,7 +48,6 @@ returns-2 c =
 
 -- the session is open, so its site exists
 there : (c : tie.Else2) → c .before .before .before .session .result .site < load 1 (c .before .before .before .before .before .args .t .now) 0
-unfolding asSession
 there c =
     let x = c .before .before .before .session in
     let s = c .before .before .before .before .before in
@@ -74,7 +71,6 @@ at-node : (c : tie.After-partition) →
     let p = c .partition .result in
     answered (decode (a .t .now)) (PUT (a .s) (a .key) (a .quality) (a .level))
     ≡ putAt (seenBy (a .t .now) (asSession (x .result))) (a .s) (a .key) (a .quality) (a .level) p (ltb (heldIn (nodeOf (siteOf (a .t .now) m) p)) 32) (roomy (a .t .now) m p)
-unfolding asSession settingIn
 at-node c =
     let k = c .before in
     let x = k .before .before .before .session in
@@ -92,7 +88,6 @@ returns-3 c =
     c .refused3 .ensures ∙ sym (at-node (h .before) ∙ rw full)
 
 has-room-requires : tie.Need-has-room-requires
-unfolding settingIn
 has-room-requires c κs =
     let p = c .before .before in
     let s = p .before .before .before .before .before .before in
@@ -123,7 +118,7 @@ by-clock : (c : tie.After-is-ready) →
     let a = p .before .before .before .before .before .before .args in
     answered (decode (a .t .now)) (PUT (a .s) (a .key) (a .quality) (a .level))
     ≡ cond (c .is-ready .result) (stampedBy (seenBy (a .t .now) (asSession x)) (a .s) (a .key) (a .quality) (a .level) (p .partition .result) (clockIn (nodeOf (siteOf (a .t .now) (x .site)) (p .partition .result)))) (refuse 3)
-unfolding asSession roomy
+unfolding roomy
 by-clock c =
     let r = c .before .before .before in
     let h = r .before .before in
@@ -149,7 +144,6 @@ stored-requires : tie.Need-stored-requires
 stored-requires c κs = small (c .before .before .before .before .before .before .before .before .before .before)
 
 returns-6 : tie.Need-returns-6
-unfolding asSession
 returns-6 c =
     let r = c .before .before .before in
     let k = c .before .clock .ensures in

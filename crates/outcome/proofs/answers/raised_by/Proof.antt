@@ -3,12 +3,11 @@ use borrow.Author.Needs.{needs}
 use borrow.Author.Tests.{not-true, not-false}
 use Rattle.protocol.specs.Record.{raisedBy}
 use Rattle.record.specs.Meaning.{asRecord}
-use Rattle.search.specs.Found.{foundOf}
 use Rattle.outcome.proofs.answers.raised_by.Statement.{statement}
 use Rattle.outcome.proofs.answers.raised_by.Tie as tie
 
 returns : tie.Need-returns
-unfolding raisedBy foundOf
+unfolding raisedBy
 returns c = rw (not-true (c .before .before .args .x .found) (c .if1 .taken))
 
 cast-raised : tie.Need-cast-raised
@@ -18,7 +17,7 @@ raised-requires : tie.Need-raised-requires
 raised-requires c κs = search needs
 
 returns-2 : tie.Need-returns-2
-unfolding raisedBy foundOf asRecord
+unfolding raisedBy asRecord
 returns-2 c =
     let e = c .before .before .before .before in
     rw (not-false (e .before .before .args .x .found) (e .if1 .left)) (c .raised .ensures)

@@ -5,16 +5,15 @@ use borrow.Author.Needs.{needs}
 use borrow.Author.Tests.{not-true, not-false}
 use Rattle.protocol.specs.Event.{shown}
 use Rattle.record.specs.Meaning.{asRecord}
-use Rattle.search.specs.Found.{foundOf}
 use Rattle.outcome.proofs.answers.shown.Statement.{statement}
 use Rattle.outcome.proofs.answers.shown.Tie as tie
 
 returns : tie.Need-returns
-unfolding shown foundOf
+unfolding shown
 returns c = rw (not-true (c .before .before .args .x .found) (c .if1 .taken))
 
 returns-2 : tie.Need-returns-2
-unfolding shown foundOf asRecord
+unfolding shown asRecord
 returns-2 c =
     let e = c .before .before in
     let x = e .before .before .args .x in

@@ -1,7 +1,6 @@
 -- `outcome::keeping::begun` meets its contract: the session as it was, but for its page.
 use borrow.Author.Needs.{needs}
 use Rattle.protocol.specs.Serve.{begun}
-use Rattle.parts.specs.Meaning.{asSession}
 use Rattle.outcome.proofs.Backward.{marks-begun}
 use Rattle.outcome.proofs.keeping.begun.Statement.{statement}
 use Rattle.outcome.proofs.keeping.begun.Tie as tie
@@ -13,7 +12,7 @@ larger-of-requires : tie.Need-larger-of-requires
 larger-of-requires c κs = search needs
 
 returns : tie.Need-returns
-unfolding asSession begun
+unfolding begun
 returns c =
     let s = c .before .before .before .before in
     rw (c .before .larger-of .ensures, c .before .before .zero .ensures, marks-begun (s .args .keys) (s .args .count) (s .pre))

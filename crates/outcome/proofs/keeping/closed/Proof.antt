@@ -2,7 +2,6 @@
 use borrow.Author.Needs.{needs}
 use Rattle.codec.specs.Tabulate.{tabulate}
 use Rattle.protocol.specs.State.{noPage, closed}
-use Rattle.parts.specs.Meaning.{asSession}
 use Rattle.outcome.proofs.keeping.closed.Statement.{statement}
 use Rattle.outcome.proofs.keeping.closed.Tie as tie
 
@@ -10,7 +9,7 @@ zero-requires : tie.Need-zero-requires
 zero-requires c κs = search needs
 
 returns : tie.Need-returns
-unfolding asSession closed noPage tabulate
+unfolding closed noPage tabulate
 returns c = rw (c .zero .ensures)
 
 pub closed-spec : {M : Type 1} → statement M

@@ -10,7 +10,7 @@ closed-requires : tie.Need-closed-requires
 closed-requires c κs = search needs
 
 returns : tie.Need-returns
-unfolding asSession closed
+unfolding closed
 returns c = ap (λ (y : Session). withPage (asSession (c .before .before .args .x)) (y .page)) (c .closed .ensures)
 
 pub ended-spec : {M : Type 1} → statement M

@@ -3,7 +3,6 @@ use mathlib.Core.Path.{ap}
 use mathlib.Core.Bool.{true}
 use borrow.Author.Needs.{needs}
 use Rattle.protocol.specs.State.{Session, closed, opened}
-use Rattle.parts.specs.Meaning.{asSession}
 use Rattle.outcome.proofs.keeping.opened.Statement.{statement}
 use Rattle.outcome.proofs.keeping.opened.Tie as tie
 
@@ -11,7 +10,7 @@ closed-requires : tie.Need-closed-requires
 closed-requires c κs = search needs
 
 returns : tie.Need-returns
-unfolding asSession closed opened
+unfolding closed opened
 returns c = ap (λ (y : Session). record { isOpen = true; site = c .before .args .m; vec = y .vec; page = y .page }) (c .closed .ensures)
 
 pub opened-spec : {M : Type 1} → statement M

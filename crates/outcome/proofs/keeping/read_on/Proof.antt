@@ -1,7 +1,6 @@
 -- `outcome::keeping::read_on` meets its contract: the session as it was, but for its page's marks and what that gathered.
 use borrow.Author.Needs.{needs}
 use Rattle.protocol.specs.Serve.{readOn}
-use Rattle.parts.specs.Meaning.{asSession}
 use Rattle.outcome.proofs.keeping.read_on.Statement.{statement}
 use Rattle.outcome.proofs.keeping.read_on.Tie as tie
 
@@ -15,7 +14,7 @@ raised-by-requires : tie.Need-raised-by-requires
 raised-by-requires c κs = search needs
 
 returns : tie.Need-returns
-unfolding asSession readOn
+unfolding readOn
 returns c = rw (c .raised-by .ensures, c .before .read .ensures)
 
 pub read-on-spec : {M : Type 1} → statement M

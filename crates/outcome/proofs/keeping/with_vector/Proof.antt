@@ -1,11 +1,9 @@
 -- `outcome::keeping::with_vector` meets its contract.
 use mathlib.Core.Path.{refl}
-use Rattle.parts.specs.Meaning.{asSession}
 use Rattle.outcome.proofs.keeping.with_vector.Statement.{statement}
 use Rattle.outcome.proofs.keeping.with_vector.Tie as tie
 
 returns : tie.Need-returns
-unfolding asSession
 returns c = refl
 
 pub with-vector-spec : {M : Type 1} → statement M

@@ -10,7 +10,6 @@ raised-requires : tie.Need-raised-requires
 raised-requires c κs = search needs
 
 returns : tie.Need-returns
-unfolding asSession
 returns c = ap (withVec (asSession (c .before .before .args .x))) (c .raised .ensures)
 
 pub raised-spec : {M : Type 1} → statement M

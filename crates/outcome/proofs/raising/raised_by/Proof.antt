@@ -4,20 +4,18 @@ use borrow.Author.Needs.{needs}
 use borrow.Author.Tests.{not-true, not-false}
 use Rattle.protocol.specs.Record.{raisedBy}
 use Rattle.record.specs.Meaning.{asRecord}
-use Rattle.parts.specs.Meaning.{asSession}
-use Rattle.search.specs.Found.{foundOf}
 use Rattle.outcome.proofs.raising.raised_by.Statement.{statement}
 use Rattle.outcome.proofs.raising.raised_by.Tie as tie
 
 returns : tie.Need-returns
-unfolding asSession raisedBy foundOf
+unfolding raisedBy
 returns c = rw (not-true (c .before .before .args .found .found) (c .if1 .taken))
 
 lent-requires : tie.Need-lent-requires
 lent-requires c κs = search needs
 
 returns-2 : tie.Need-returns-2
-unfolding asSession raisedBy foundOf asRecord
+unfolding raisedBy asRecord
 returns-2 c =
     let e = c .before .before .before in
     c .lent .ensures ∙ rw (not-false (e .before .before .args .found .found) (e .if1 .left))

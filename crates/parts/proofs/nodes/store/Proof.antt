@@ -3,7 +3,6 @@ use mathlib.Core.Path.{sym, ap, _∙_, subst}
 use native.Mathlib.Omega.{arith}
 use borrow.Author.Needs.{needs}
 use Rattle.record.specs.RecordBytes.{putMessage}
-use Rattle.record.specs.Meaning.{messageOf}
 use Rattle.record.proofs.Meaning.{message-told}
 use Rattle.parts.specs.Node.{stored}
 use Rattle.parts.specs.Room.{Room}
@@ -14,7 +13,6 @@ enum-told : tie.Need-enum-told
 enum-told c = search needs
 
 add-requires : tie.Need-add-requires
-unfolding messageOf
 add-requires c κs =
     let k = c .before in
     let s = k .before .before .before in
@@ -27,14 +25,14 @@ same-length : tie.Need-same-length
 same-length c = search needs
 
 returns : tie.Need-returns
-unfolding stored putMessage messageOf
+unfolding stored putMessage
 returns c =
     let k = c .before .before .before .before in
     let x = k .before .before .before .args .x in
     c .before .before .add .ensures ∙ rw (message-told x _ (k .enum-told .given .1))
 
 returns-2 : tie.Need-returns-2
-unfolding stored messageOf
+unfolding stored
 returns-2 c =
     let s = c .before .before .before in
     sym (ap (λ y. stored y (s .args .n .now)) (message-told (s .args .x) _ (c .enum-told2 .given .1)))

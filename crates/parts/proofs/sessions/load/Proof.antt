@@ -2,7 +2,6 @@
 use native.Mathlib.Omega.{arith}
 use borrow.Author.Needs.{needs}
 use Rattle.codec.specs.Le.{load}
-use Rattle.parts.specs.Meaning.{asSession}
 use Rattle.parts.specs.Session.{sessionIn}
 use Rattle.parts.proofs.Marks.{marks-loaded}
 use Rattle.parts.proofs.sessions.load.Statement.{statement}
@@ -36,7 +35,7 @@ load-vector-requires-3 : tie.Need-load-vector-requires-3
 load-vector-requires-3 c κs = search needs
 
 returns : tie.Need-returns
-unfolding asSession sessionIn
+unfolding sessionIn
 returns c =
     let k = c .before .before .before in
     let u = k .before .before in

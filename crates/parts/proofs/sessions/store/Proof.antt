@@ -2,7 +2,6 @@
 use mathlib.Core.Path.{_∙_}
 use borrow.Author.Needs.{needs}
 use Rattle.codec.proofs.Tabulate.{tab-length}
-use Rattle.parts.specs.Meaning.{asSession}
 use Rattle.parts.specs.Session.{putSession}
 use Rattle.parts.proofs.sessions.store.Statement.{statement}
 use Rattle.parts.proofs.sessions.store.Tie as tie
@@ -26,7 +25,7 @@ same-length : tie.Need-same-length
 same-length c = search needs
 
 returns : tie.Need-returns
-unfolding asSession putSession
+unfolding putSession
 returns c =
     let k5 = c .before .before in
     let k4 = k5 .before .before .before .before in

@@ -5,7 +5,6 @@ use native.Mathlib.Omega.{arith}
 use borrow.Author.Needs.{needs}
 use lib.ListN.{length}
 use Rattle.codec.specs.Tabulate.{tabulate}
-use Rattle.parts.specs.Meaning.{asSession}
 use Rattle.parts.specs.Session.{putMarks}
 use Rattle.parts.proofs.Marks.{markOf, fromTo, marks-all, marks-none, marks-step}
 use Rattle.parts.proofs.sessions.store_marks.Statement.{statement}
@@ -49,7 +48,6 @@ same-length : tie.Need-same-length Inv-loop μ-loop
 same-length c = search needs
 
 returns : tie.Need-returns Inv-loop μ-loop
-unfolding asSession
 returns c =
     let l = c .before in
     let x = l .before .before .before .before .before .args .x in

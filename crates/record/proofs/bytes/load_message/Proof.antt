@@ -5,7 +5,7 @@ use borrow.Author.Needs.{needs}
 use mir.ValLaws.{toZ-ofZ}
 use mir.Syntax.{w32}
 use Rattle.protocol.specs.Record.{Update}
-use Rattle.record.specs.Meaning.{asRecord, messageOf, asMessage}
+use Rattle.record.specs.Meaning.{asRecord}
 use Rattle.record.specs.RecordBytes.{messageAt}
 use Rattle.record.proofs.bytes.load_message.Statement.{statement}
 use Rattle.record.proofs.bytes.load_message.Tie as tie
@@ -26,14 +26,14 @@ load-u64-requires : tie.Need-load-u64-requires
 load-u64-requires c κs = search needs
 
 returns : tie.Need-returns
-unfolding asMessage messageOf messageAt asRecord
+unfolding messageAt asRecord
 returns c =
     let got = c .before .before .load-record in
     let isUpdate = sym (c .before .before .before .before .load-u8 .ensures) ∙ c .before .before .before .if1 .taken in
     rw (isUpdate, toZ-ofZ w32 (got .result .level) (search needs)) (ap Update (got .ensures))
 
 returns-2 : tie.Need-returns-2
-unfolding asMessage messageOf messageAt
+unfolding messageAt
 returns-2 c =
     let no = ne-eqb _ 1 (λ e. c .before .if1 .left (c .before .before .load-u8 .ensures ∙ e)) in
     rw (no, c .load-u64 .ensures)

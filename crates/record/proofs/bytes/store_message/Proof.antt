@@ -4,7 +4,6 @@ use borrow.Author.Needs.{needs}
 use mir.ValLaws.{toZ-ofZ}
 use mir.Syntax.{w32}
 use Rattle.vector.proofs.Entries.{entry-zeros}
-use Rattle.record.specs.Meaning.{messageOf}
 use Rattle.record.specs.RecordBytes.{putRecord, putMessage}
 use Rattle.record.proofs.Meaning.{message-told}
 use Rattle.record.proofs.bytes.store_message.Statement.{statement}
@@ -28,7 +27,7 @@ same-length : tie.Need-same-length
 same-length c = search needs
 
 returns : tie.Need-returns
-unfolding putMessage putRecord messageOf
+unfolding putMessage putRecord
 returns c =
     let k = c .before .before .before .before .before .before in
     let x = k .before .before .before .args .x in
@@ -39,7 +38,7 @@ same-length-2 : tie.Need-same-length-2
 same-length-2 c = search needs
 
 returns-2 : tie.Need-returns-2
-unfolding putMessage messageOf
+unfolding putMessage
 returns-2 c =
     let k = c .before .before .before .before .before in
     let x = k .before .before .before .args .x in

@@ -7,7 +7,6 @@ use borrow.Author.Tests.{le-leb, lt-leb}
 use lib.Dec.{leb}
 use Rattle.codec.specs.Below.{allBelow}
 use Rattle.codec.proofs.Below.{allBelow-none, allBelow-more, allBelow-fails}
-use Rattle.vector.specs.Vec.{width}
 use Rattle.vector.specs.Entries.{loadVec}
 use Rattle.vector.proofs.Entries.{loadVec-below}
 use Rattle.record.proofs.times.none_above.Statement.{statement}
@@ -33,7 +32,6 @@ load-u64-requires : tie.Need-load-u64-requires Inv-loop μ-loop
 load-u64-requires c κs = search needs
 
 returns : tie.Need-returns Inv-loop μ-loop
-unfolding width
 returns c =
     let l = c .before .before .before in
     let a = l .before .before .args in
@@ -47,7 +45,6 @@ loop-less : tie.Need-loop-less Inv-loop μ-loop
 loop-less c = search needs
 
 loop-again : tie.Need-loop-again Inv-loop μ-loop
-unfolding width
 loop-again c =
     let l = c .before .before .before in
     let a = l .before .before .args in
@@ -55,7 +52,6 @@ loop-again c =
     (omega arith, allBelow-more (l .loop .i) _ (l .loop .inv .1) (rw (here, ← c .before .load-u64 .ensures) (le-leb _ _ (c .if1 .left))))
 
 returns-2 : tie.Need-returns-2 Inv-loop μ-loop
-unfolding width
 returns-2 c =
     let l = c .before in
     let e : l .loop .i ≡ 4 = omega arith in

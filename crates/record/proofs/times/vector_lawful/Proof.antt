@@ -7,7 +7,6 @@ use lib.Dec.{ltb, eqb}
 use Rattle.codec.specs.Below.{allBelow}
 use Rattle.codec.proofs.Tests.{fails, passes}
 use Rattle.codec.proofs.Below.{allBelow-none, allBelow-more, allBelow-fails}
-use Rattle.vector.specs.Vec.{width}
 use Rattle.vector.specs.Entries.{entry}
 use Rattle.record.specs.Ranges.{timeLawful, vecLawful}
 use Rattle.record.proofs.times.vector_lawful.Statement.{statement}
@@ -33,7 +32,7 @@ entry-lawful-requires : tie.Need-entry-lawful-requires Inv-loop μ-loop
 entry-lawful-requires c κs = search needs
 
 returns : tie.Need-returns Inv-loop μ-loop
-unfolding width entry vecLawful
+unfolding entry vecLawful
 returns c =
     λ partitions.
     let l = c .before .before .before in
@@ -54,7 +53,7 @@ loop-again c =
     (omega arith, allBelow-more (l .loop .i) _ (l .loop .inv .1) yes)
 
 returns-2 : tie.Need-returns-2 Inv-loop μ-loop
-unfolding width vecLawful
+unfolding vecLawful
 returns-2 c =
     λ partitions.
     let l = c .before in

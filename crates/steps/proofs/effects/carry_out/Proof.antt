@@ -2,7 +2,6 @@
 use mathlib.Core.Path.{_≡_, sym, _∙_}
 use native.Mathlib.Omega.{arith}
 use borrow.Author.Needs.{needs}
-use Rattle.record.specs.Meaning.{messageOf, asMessage}
 use Rattle.table.specs.Put.{putChanges}
 use Rattle.table.specs.Fits.{FitsAll}
 use Rattle.outcome.specs.Decided.{changesOf}
@@ -67,7 +66,7 @@ cast-publish-2 : tie.Need-cast-publish-2
 cast-publish-2 c = search needs
 
 publish-requires : tie.Need-publish-requires
-unfolding changesOf asMessage messageOf
+unfolding changesOf
 publish-requires c κs =
     let k = c .before .before in
     let s = k .before .before .before .before .before in
@@ -84,7 +83,7 @@ cast-publish-4 : tie.Need-cast-publish-4
 cast-publish-4 c = search needs
 
 publish-requires-2 : tie.Need-publish-requires-2
-unfolding changesOf asMessage
+unfolding changesOf
 publish-requires-2 c κs =
     let k = c .before .before in
     let s = k .before .before .before .before .before in
@@ -95,7 +94,7 @@ cast-set-session-2 : tie.Need-cast-set-session-2
 cast-set-session-2 c = search needs
 
 set-session-requires-2 : tie.Need-set-session-requires-2
-unfolding changesOf asMessage
+unfolding changesOf
 set-session-requires-2 c κs =
     let k = c .before .before .before .before .before .before in
     let s = k .before .before .before .before .before in
@@ -115,7 +114,7 @@ cast-receive-3 : tie.Need-cast-receive-3
 cast-receive-3 c = search needs
 
 receive-requires : tie.Need-receive-requires
-unfolding changesOf asMessage
+unfolding changesOf
 receive-requires c κs =
     let k = c .before .before in
     let s = k .before .before .before .before .before in
@@ -150,7 +149,7 @@ same-length-3 : tie.Need-same-length-3
 same-length-3 c = search needs
 
 returns-4 : tie.Need-returns-4
-unfolding changesOf putChanges asMessage messageOf
+unfolding changesOf putChanges
 returns-4 c =
     let k = c .before .before in
     let s = k .before .before .before .before .before .before .before .before in
@@ -160,7 +159,7 @@ same-length-4 : tie.Need-same-length-4
 same-length-4 c = search needs
 
 returns-5 : tie.Need-returns-5
-unfolding changesOf putChanges asMessage
+unfolding changesOf putChanges
 returns-5 c =
     let k = c .before .before in
     let u = k .before .before .before .before in
@@ -172,7 +171,7 @@ same-length-5 : tie.Need-same-length-5
 same-length-5 c = search needs
 
 returns-6 : tie.Need-returns-6
-unfolding changesOf putChanges asMessage
+unfolding changesOf putChanges
 returns-6 c =
     let k = c .before .before in
     let s = k .before .before .before .before .before .before .before .before in
