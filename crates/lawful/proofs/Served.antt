@@ -157,7 +157,6 @@ module _ (S : State) (ok : LawfulState S) where
   c = S .net .setting
 
   part-lt : (k : ℕ) → partitionOf c k < c .partitions
-  unfolding partitionOf
   part-lt k = mod-lt k (ok .partition)
 
   -- a session that is open

@@ -11,7 +11,7 @@ use Rattle.outcome.specs.declared.Effect.{Effect}
 use Rattle.outcome.specs.declared.Decided.{Decided}
 use Rattle.outcome.specs.declared.Effect.the-variants as Effect
 
-unfoldable pub changesOf : Effect → Vector → Session → List Change
+abbrev pub changesOf : Effect → Vector → Session → List Change
 changesOf Effect.Nothing v x = []
 changesOf (Effect.Keep s) v x = SetSession s (asSession x) ∷ []
 changesOf (Effect.Clock m p t) v x = SetClock m p t ∷ []

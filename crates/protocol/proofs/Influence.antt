@@ -45,11 +45,9 @@ alone c x = record { setting = c; session = x; clock = λ p. 0; heard = λ p. ze
 
 -- the partition of a key, and one that an event names
 part-key : (c : Setting) (k : ℕ) → partitionOf c (partitionOf c k) ≡ partitionOf c k
-unfolding partitionOf
 part-key c k = mod-mod k (c .partitions)
 
 part-named : (c : Setting) (p : ℕ) → T (ltb p (c .partitions)) → partitionOf c p ≡ p
-unfolding partitionOf
 part-named c p t = mod-eq-of-lt (ltb-yes t)
 
 all-same : (n : ℕ) (f g : ℕ → Bool) → ((i : ℕ) → i < n → f i ≡ g i) → allBelow n f ≡ allBelow n g

@@ -53,7 +53,6 @@ FirstReaches S w [] = Unit {0}
 FirstReaches S w (c ∷ cs) = Reaches S w c × Quiet cs
 
 pub part-is : (c : Setting) (k : ℕ) → IsPart c (partitionOf c k)
-unfolding partitionOf
 part-is c k h = mod-lt k h
 
 module _ (S : State) where

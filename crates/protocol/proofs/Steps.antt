@@ -210,7 +210,7 @@ step-inv S h e J = step-elim S e (λ o. Inv (applyAll (o .changes) S) (note h e 
 -- ---- every list of events
 
 setup-inv : (c : Setting) → c .sites ≤ width → Inv (setup c) start
-unfolding setup start zeros closed noPage Ascending
+unfolding setup start closed noPage Ascending
 setup-inv c l = record {
   all = [];
   net = record {

@@ -14,7 +14,7 @@ pub record Setting : Type 0 where
   pub partitions : ℕ
 
 -- R2
-unfoldable pub partitionOf : Setting → ℕ → ℕ
+abbrev pub partitionOf : Setting → ℕ → ℕ
 partitionOf c k = k % c .partitions
 
 -- R80: what names a record. No two PUTs of a run are alike in all three

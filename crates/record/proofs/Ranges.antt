@@ -62,7 +62,6 @@ vec-fits c v few ok = record { below = λ i. time-fits (v i) (ok .below i); beyo
 
 module _ (c : Setting) where
   pub zeros-lawful : LawfulVec c zeros
-  unfolding zeros
   zeros-lawful = record { below = λ i. omega arith; beyond = λ i h. refl }
 
   pub larger-lawful : (v w : Vec) → LawfulVec c v → LawfulVec c w → LawfulVec c (larger v w)

@@ -126,7 +126,7 @@ abbrev beat : (m t : ℕ) → Rec
 beat m t = record { id = record { key = 0; source = m; stamp = t }; quality = 0; level = pos 0; carried = zeros }
 
 beat-fits : (m t : ℕ) → m < 256 → t < span 8 → FitsRec (beat m t)
-unfolding FitsLevel zeros
+unfolding FitsLevel
 beat-fits m t h g = record {
   key = omega arith;
   source = h;

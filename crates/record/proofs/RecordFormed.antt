@@ -78,7 +78,7 @@ beat i t = record { id = record { key = 0; source = i; stamp = t }; quality = 0;
 
 -- the bytes that say the fields of a heartbeat are formed as one
 heartbeat-formed : (i t : ℕ) (b : List ℕ) (at : ℕ) → recordAt b at ≡ beat i t → T (heartbeatFormed i b at)
-unfolding heartbeatFormed recordAt zeros
+unfolding heartbeatFormed recordAt
 heartbeat-formed i t b at e =
     yes-every
     (eqb (load 1 b at) 0 ∷ eqb (load 1 b (at + 1)) i ∷ eqb (load 1 b (at + 2)) 0 ∷ eqb (load 4 b (at + 4)) 0 ∷ allBelow width (λ k. eqb (loadVec b (at + 16) k) 0) ∷ []) (

@@ -8,7 +8,7 @@ use Rattle.record.specs.declared.Message.{Message}
 use Rattle.record.specs.declared.Letter.{Letter}
 use Rattle.record.specs.declared.Message.the-variants as Message
 
-unfoldable pub asRecord : Record → Rec
+abbrev pub asRecord : Record → Rec
 asRecord r = record { id = record { key = r .key; source = r .source; stamp = r .stamp }; quality = r .quality; level = r .level; carried = entry (r .carried .e) }
 
 abbrev pub messageOf : Message → Vector → Msg

@@ -41,7 +41,7 @@ module _ (s : List ℕ) (blank : Every Zero s) where
   load-blank (suc w) j = omega (arith, blank j, load-blank w (suc j))
 
   vec-blank : (at : ℕ) → loadVec s at ≡ zeros
-  unfolding loadVec zeros
+  unfolding loadVec
   vec-blank at = fun-ext (λ i. cond-elim (λ x. x ≡ 0) (ltb i width) (λ b. load-blank 8 (at + 8 * i)) (λ b. refl))
 
   clock-blank : clockIn s ≡ 0

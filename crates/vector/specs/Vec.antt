@@ -12,7 +12,7 @@ width = 4
 abbrev pub Vec : Type 0
 Vec = ℕ → ℕ
 
-unfoldable pub zeros : Vec
+abbrev pub zeros : Vec
 zeros i = 0
 
 -- every entry of v is at most w's

@@ -8,7 +8,6 @@ use Rattle.protocol.specs.Record.{Setting}
 use Rattle.protocol.specs.Search.{newestPlace}
 use Rattle.protocol.proofs.Places.{newest-none, newest-some}
 use Rattle.record.specs.RecordBytes.{recordAt}
-use Rattle.record.specs.Meaning.{asRecord}
 use Rattle.parts.specs.Node.{slotAt, heldIn, storeIn}
 use Rattle.search.specs.Found.{fitsRead}
 use Rattle.search.proofs.newest.Statement.{statement}
@@ -48,7 +47,7 @@ load-record-requires : tie.Need-load-record-requires
 load-record-requires c κs = search needs
 
 returns-2 : tie.Need-returns-2
-unfolding storeIn asRecord
+unfolding storeIn
 returns-2 c =
     let e = c .before in
     let k = e .before in

@@ -2,7 +2,6 @@
 use mathlib.Core.Path.{refl}
 use native.Mathlib.Nat.{mod-lt}
 use native.Mathlib.Omega.{arith}
-use Rattle.protocol.specs.Record.{partitionOf}
 use Rattle.decision.proofs.Formed.{parts-some, parts-at-most}
 use Rattle.decision.proofs.lookup.partition.Statement.{statement}
 use Rattle.decision.proofs.lookup.partition.Tie as tie
@@ -17,7 +16,6 @@ partition-of-requires c κs =
     omega (arith, c .load-u8 .ensures, parts-some (s .args .t .now) (s .pre .1))
 
 returns : tie.Need-returns
-unfolding partitionOf
 returns c =
     let s = c .before .before .before in
     let some = parts-some (s .args .t .now) (s .pre .1) in

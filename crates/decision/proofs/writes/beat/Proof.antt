@@ -8,7 +8,6 @@ use lib.Dec.{ltb}
 use Rattle.parts.specs.Node.{clockIn, heardIn}
 use Rattle.table.specs.Parts.{siteOf, nodeOf}
 use Rattle.lawful.proofs.Facts.{Formed, formed}
-use Rattle.outcome.specs.Decided.{changesOf}
 use Rattle.decision.proofs.Room.{roomy}
 use Rattle.decision.proofs.Times.{beat-answered}
 use Rattle.decision.proofs.writes.beat.Statement.{statement}
@@ -40,7 +39,7 @@ done-requires : tie.Need-done-requires
 done-requires c κs = search needs
 
 returns : tie.Need-returns
-unfolding changesOf sends
+unfolding sends
 returns c =
     let k = c .before .before in
     let s = k .before .before .before .before in
@@ -67,7 +66,7 @@ done-requires-2 : tie.Need-done-requires-2
 done-requires-2 c κs = search needs
 
 returns-3 : tie.Need-returns-3
-unfolding changesOf sends roomy
+unfolding sends roomy
 returns-3 c =
     let r = c .before .before in
     let k = r .before .before in

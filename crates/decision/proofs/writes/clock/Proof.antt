@@ -6,7 +6,6 @@ use borrow.Author.Tests.{le-leb, lt-leb}
 use Rattle.parts.specs.Node.{clockIn}
 use Rattle.table.specs.Parts.{siteOf, nodeOf}
 use Rattle.lawful.proofs.Facts.{formed}
-use Rattle.outcome.specs.Decided.{changesOf}
 use Rattle.decision.proofs.Times.{clock-answered}
 use Rattle.decision.proofs.writes.clock.Statement.{statement}
 use Rattle.decision.proofs.writes.clock.Tie as tie
@@ -38,7 +37,6 @@ done-requires : tie.Need-done-requires
 done-requires c κs = search needs
 
 returns-2 : tie.Need-returns-2
-unfolding changesOf
 returns-2 c =
     let k = c .before .before in
     let a = k .before .before .before .args in

@@ -1,11 +1,9 @@
 -- `outcome::answers::kept` meets its contract.
 use mathlib.Core.Path.{refl}
-use Rattle.outcome.specs.Decided.{changesOf}
 use Rattle.outcome.proofs.answers.kept.Statement.{statement}
 use Rattle.outcome.proofs.answers.kept.Tie as tie
 
 returns : tie.Need-returns
-unfolding changesOf
 returns c = refl
 
 pub kept-spec : {M : Type 1} → statement M

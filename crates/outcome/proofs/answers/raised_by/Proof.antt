@@ -2,7 +2,6 @@
 use borrow.Author.Needs.{needs}
 use borrow.Author.Tests.{not-true, not-false}
 use Rattle.protocol.specs.Record.{raisedBy}
-use Rattle.record.specs.Meaning.{asRecord}
 use Rattle.outcome.proofs.answers.raised_by.Statement.{statement}
 use Rattle.outcome.proofs.answers.raised_by.Tie as tie
 
@@ -17,7 +16,7 @@ raised-requires : tie.Need-raised-requires
 raised-requires c κs = search needs
 
 returns-2 : tie.Need-returns-2
-unfolding raisedBy asRecord
+unfolding raisedBy
 returns-2 c =
     let e = c .before .before .before .before in
     rw (not-false (e .before .before .args .x .found) (e .if1 .left)) (c .raised .ensures)

@@ -4,7 +4,6 @@ use mir.Syntax.{w32}
 use borrow.Author.Needs.{needs}
 use borrow.Author.Tests.{not-true, not-false}
 use Rattle.protocol.specs.Event.{shown}
-use Rattle.record.specs.Meaning.{asRecord}
 use Rattle.outcome.proofs.answers.shown.Statement.{statement}
 use Rattle.outcome.proofs.answers.shown.Tie as tie
 
@@ -13,7 +12,7 @@ unfolding shown
 returns c = rw (not-true (c .before .before .args .x .found) (c .if1 .taken))
 
 returns-2 : tie.Need-returns-2
-unfolding shown asRecord
+unfolding shown
 returns-2 c =
     let e = c .before .before in
     let x = e .before .before .args .x in

@@ -5,7 +5,6 @@ use lib.ListN.{length}
 use mir.ValLaws.{toZ-ofZ}
 use mir.Syntax.{w32}
 use Rattle.protocol.specs.Serve.{written}
-use Rattle.outcome.specs.Decided.{changesOf}
 use Rattle.outcome.proofs.answers.stored.Statement.{statement}
 use Rattle.outcome.proofs.answers.stored.Tie as tie
 use borrow.Author.Needs.{needs}
@@ -20,7 +19,7 @@ with-vector-requires : tie.Need-with-vector-requires
 with-vector-requires c κs = search needs
 
 returns : tie.Need-returns
-unfolding changesOf written
+unfolding written
 returns c =
     let s = c .before .before .before in
     let x = s .args .x in

@@ -3,7 +3,6 @@ use mathlib.Core.Path.{_∙_}
 use borrow.Author.Needs.{needs}
 use borrow.Author.Tests.{not-true, not-false}
 use Rattle.protocol.specs.Record.{raisedBy}
-use Rattle.record.specs.Meaning.{asRecord}
 use Rattle.outcome.proofs.raising.raised_by.Statement.{statement}
 use Rattle.outcome.proofs.raising.raised_by.Tie as tie
 
@@ -15,7 +14,7 @@ lent-requires : tie.Need-lent-requires
 lent-requires c κs = search needs
 
 returns-2 : tie.Need-returns-2
-unfolding raisedBy asRecord
+unfolding raisedBy
 returns-2 c =
     let e = c .before .before .before in
     c .lent .ensures ∙ rw (not-false (e .before .before .args .found .found) (e .if1 .left))

@@ -5,7 +5,6 @@ use borrow.Author.Needs.{needs}
 use mir.ValLaws.{toZ-ofZ}
 use mir.Syntax.{w32}
 use Rattle.protocol.specs.Record.{Update}
-use Rattle.record.specs.Meaning.{asRecord}
 use Rattle.record.specs.RecordBytes.{messageAt}
 use Rattle.record.proofs.bytes.load_message.Statement.{statement}
 use Rattle.record.proofs.bytes.load_message.Tie as tie
@@ -26,7 +25,7 @@ load-u64-requires : tie.Need-load-u64-requires
 load-u64-requires c κs = search needs
 
 returns : tie.Need-returns
-unfolding messageAt asRecord
+unfolding messageAt
 returns c =
     let got = c .before .before .load-record in
     let isUpdate = sym (c .before .before .before .before .load-u8 .ensures) ∙ c .before .before .before .if1 .taken in

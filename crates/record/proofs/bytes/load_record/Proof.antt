@@ -2,7 +2,6 @@
 use borrow.Author.Needs.{needs}
 use mir.ValLaws.{toZ-ofZ}
 use mir.Syntax.{w32}
-use Rattle.record.specs.Meaning.{asRecord}
 use Rattle.record.specs.RecordBytes.{recordAt}
 use Rattle.record.proofs.bytes.load_record.Statement.{statement}
 use Rattle.record.proofs.bytes.load_record.Tie as tie
@@ -41,7 +40,7 @@ load-vector-requires : tie.Need-load-vector-requires
 load-vector-requires c κs = search needs
 
 returns : tie.Need-returns
-unfolding asRecord recordAt
+unfolding recordAt
 returns c =
     let got = c .before .before .load-level in
     rw (toZ-ofZ w32 (got .result) (record { sfits = got .ok }), got .ensures, c .load-vector .ensures, c .before .before .before .before .before .load-u8 .ensures, c .before .before .before .before .load-u82 .ensures, c .before .before .before .load-u83 .ensures, c .before .load-u64 .ensures)

@@ -17,7 +17,7 @@ partition-of-requires : tie.Need-partition-of-requires
 partition-of-requires c κs = search needs
 
 returns : tie.Need-returns
-unfolding recordLawful recordAt partitionOf
+unfolding recordLawful recordAt
 returns c =
     let part = c .before .partition-of in
     rw (← c .before .before .load-u8 .ensures, ← part .ensures, ne-eqb (part .result) (c .before .before .before .before .args .p) (c .if1 .taken))
@@ -28,7 +28,7 @@ record-in-range-requires c κs = search needs
 -- the key is of the partition
 of-partition : (k : tie.Else1) → let a = k .before .before .before .before .args in
     eqb (partitionOf (record { sites = a .sites; partitions = a .partitions }) (recordAt (a .b .now) (a .at) .id .key)) (a .p) ≡ true
-unfolding recordAt partitionOf
+unfolding recordAt
 of-partition k =
     let part = k .before .partition-of in
     rw (← k .before .before .load-u8 .ensures, ← part .ensures) (eq-eqb (part .result) (k .before .before .before .before .args .p) (k .if1 .left))

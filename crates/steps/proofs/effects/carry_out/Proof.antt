@@ -4,7 +4,6 @@ use native.Mathlib.Omega.{arith}
 use borrow.Author.Needs.{needs}
 use Rattle.table.specs.Put.{putChanges}
 use Rattle.table.specs.Fits.{FitsAll}
-use Rattle.outcome.specs.Decided.{changesOf}
 use Rattle.outcome.specs.declared.Effect.{Effect}
 use Rattle.steps.specs.Waits.{Waits}
 use Rattle.steps.proofs.Carried.{marks-few, changesIf, told, told-same}
@@ -32,7 +31,6 @@ cast-set-session : tie.Need-cast-set-session
 cast-set-session c = search needs
 
 set-session-requires : tie.Need-set-session-requires
-unfolding changesOf
 set-session-requires c κs =
     let k = c .before .before in
     let s = k .before .before .before .before .before in
@@ -49,7 +47,6 @@ cast-set-clock-2 : tie.Need-cast-set-clock-2
 cast-set-clock-2 c = search needs
 
 set-clock-requires : tie.Need-set-clock-requires
-unfolding changesOf
 set-clock-requires c κs =
     let k = c .before .before in
     let s = k .before .before .before .before .before in
@@ -66,7 +63,6 @@ cast-publish-2 : tie.Need-cast-publish-2
 cast-publish-2 c = search needs
 
 publish-requires : tie.Need-publish-requires
-unfolding changesOf
 publish-requires c κs =
     let k = c .before .before in
     let s = k .before .before .before .before .before in
@@ -83,7 +79,6 @@ cast-publish-4 : tie.Need-cast-publish-4
 cast-publish-4 c = search needs
 
 publish-requires-2 : tie.Need-publish-requires-2
-unfolding changesOf
 publish-requires-2 c κs =
     let k = c .before .before in
     let s = k .before .before .before .before .before in
@@ -94,7 +89,6 @@ cast-set-session-2 : tie.Need-cast-set-session-2
 cast-set-session-2 c = search needs
 
 set-session-requires-2 : tie.Need-set-session-requires-2
-unfolding changesOf
 set-session-requires-2 c κs =
     let k = c .before .before .before .before .before .before in
     let s = k .before .before .before .before .before in
@@ -114,7 +108,6 @@ cast-receive-3 : tie.Need-cast-receive-3
 cast-receive-3 c = search needs
 
 receive-requires : tie.Need-receive-requires
-unfolding changesOf
 receive-requires c κs =
     let k = c .before .before in
     let s = k .before .before .before .before .before in
@@ -122,14 +115,14 @@ receive-requires c κs =
     (s .pre .0, f .source, f .site, f .partition, f .other, f .room, waits s _ (k .effect5 .given .1) .0)
 
 returns : tie.Need-returns
-unfolding changesOf putChanges
+unfolding putChanges
 returns c = puts (c .before .before .before .before .before) _ (c .enum-told .given .1)
 
 same-length : tie.Need-same-length
 same-length c = search needs
 
 returns-2 : tie.Need-returns-2
-unfolding changesOf putChanges
+unfolding putChanges
 returns-2 c =
     let k = c .before .before in
     let s = k .before .before .before .before .before .before .before .before in
@@ -139,7 +132,7 @@ same-length-2 : tie.Need-same-length-2
 same-length-2 c = search needs
 
 returns-3 : tie.Need-returns-3
-unfolding changesOf putChanges
+unfolding putChanges
 returns-3 c =
     let k = c .before .before in
     let s = k .before .before .before .before .before .before .before .before in
@@ -149,7 +142,7 @@ same-length-3 : tie.Need-same-length-3
 same-length-3 c = search needs
 
 returns-4 : tie.Need-returns-4
-unfolding changesOf putChanges
+unfolding putChanges
 returns-4 c =
     let k = c .before .before in
     let s = k .before .before .before .before .before .before .before .before in
@@ -159,7 +152,7 @@ same-length-4 : tie.Need-same-length-4
 same-length-4 c = search needs
 
 returns-5 : tie.Need-returns-5
-unfolding changesOf putChanges
+unfolding putChanges
 returns-5 c =
     let k = c .before .before in
     let u = k .before .before .before .before in
@@ -171,7 +164,7 @@ same-length-5 : tie.Need-same-length-5
 same-length-5 c = search needs
 
 returns-6 : tie.Need-returns-6
-unfolding changesOf putChanges
+unfolding putChanges
 returns-6 c =
     let k = c .before .before in
     let s = k .before .before .before .before .before .before .before .before in
