@@ -13,7 +13,7 @@ use steps::runs;
 
 pub mod port;
 
-// "exactly 57,344 bytes"
+// R10: exactly 57,344 bytes
 pub const TABLE: usize = 57344;
 
 fn clear(t: &mut [u8])
@@ -33,8 +33,7 @@ pub fn setup(table: &mut [u8], sites: u32, partitions: u32) -> Answer
     if table.len() != TABLE {
         return pieces::refused(23);
     }
-    let lawful = ((0 < sites) & (sites <= 4)) & ((0 < partitions) & (partitions <= 4));
-    if !lawful {
+    if !(lawful::number_lawful(sites) & lawful::number_lawful(partitions)) {
         return pieces::refused(11);
     }
     clear(table);

@@ -84,7 +84,7 @@ pub fn store_u64(t: &mut [u8], at: usize, x: u64)
 }
 
 // The level whose four bytes are the number b. A cast takes no number from 2^31 on, so the upper half is counted down from −1.
-pub fn level_from(b: u32) -> i32
+fn level_from(b: u32) -> i32
     ensures { λ r. ⌜ r ≡ levelFrom b ⌝ }
 {
     if b < 2147483648 {
@@ -95,7 +95,7 @@ pub fn level_from(b: u32) -> i32
 }
 
 // The number of a level's four bytes.
-pub fn bits_of(x: i32) -> u32
+fn bits_of(x: i32) -> u32
     ensures { λ r. ⌜ r ≡ bitsOf x ⌝ }
 {
     if x < 0 {

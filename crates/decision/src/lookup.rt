@@ -27,12 +27,13 @@ pub fn session(t: &[u8], s: u8) -> Session
     sessions::load(places::session(t, s))
 }
 
-// "key k lives on partition k mod (number of partitions)"
+// R2
 pub fn partition(t: &[u8], k: u8) -> u8
     requires { ⌜ Long (now t) × T (wellFormed (now t)) ⌝ }
     ensures { λ r. ⌜ (r ≡ partitionOf (settingIn (now (t .entry))) k) × (r < 4) ⌝ }
 {
-    limits::partition_of(k, codec::load_u8(t, 1))
+    let setting = table::setting(t);
+    limits::partition_of(k, setting.partitions)
 }
 
 // What the node of site m and partition p has heard.

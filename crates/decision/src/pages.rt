@@ -36,7 +36,7 @@ pub fn begin(t: &[u8], s: u8, p: u8, count: u8, keys: [u8; 8]) -> Decided
     answers::kept(Answer::Done, s, keeping::begun(x, coordinator, keys, count))
 }
 
-// READ of key k: "every entry of the node's vector, m included, is at least the page's", and then the newest record that fits the page is shown.
+// R47, READ of key k: every entry of the node's vector is at least the page's, and then the newest candidate is shown.
 pub fn read(t: &[u8], s: u8, k: u8) -> Decided
     requires { ⌜ Long (now t) × T (wellFormed (now t)) × (s < 16) ⌝ }
     ensures { λ r. ⌜ outcomeOf r ≡ answered (decode (now (t .entry))) (READ s k) ⌝ }
@@ -64,7 +64,7 @@ pub fn read(t: &[u8], s: u8, k: u8) -> Decided
     answers::kept(answers::shown(found), s, keeping::read_on(x, k, found))
 }
 
-// END of the page: "raises the session's vector, as for GET", by what the page gathered, which has no stamp of its own.
+// R48, END of the page: raises the session by what the page gathered, which has no stamp of its own.
 pub fn end(t: &[u8], s: u8) -> Decided
     requires { ⌜ Long (now t) × T (wellFormed (now t)) × (s < 16) ⌝ }
     ensures { λ r. ⌜ outcomeOf r ≡ answered (decode (now (t .entry))) (END s) ⌝ }

@@ -40,7 +40,7 @@ pub fn close_session(t: &[u8], s: u8) -> Decided
     answers::kept(Answer::Done, s, keeping::closed())
 }
 
-// GET of key k: "the node's entry for every site other than m is at least the session's", and then the newest record is shown.
+// R44, GET of key k: the node's entry for every other site is at least the session's, and then the newest record is shown.
 pub fn get(t: &[u8], s: u8, k: u8) -> Decided
     requires { ⌜ Long (now t) × T (wellFormed (now t)) × (s < 16) ⌝ }
     ensures { λ r. ⌜ outcomeOf r ≡ answered (decode (now (t .entry))) (GET s k) ⌝ }

@@ -57,7 +57,7 @@ fn has_room(t: &[u8], m: u8, p: u8) -> bool
     all
 }
 
-// "An equal time is done."
+// R43: an equal time is done.
 pub fn clock(t: &[u8], m: u8, p: u8, time: u64) -> Decided
     requires { ⌜ Long (now t) × T (wellFormed (now t)) × (m < load 1 (now t) 0) × (p < load 1 (now t) 1) ⌝ }
     ensures { λ r. ⌜ outcomeOf r ≡ answered (decode (now (t .entry))) (CLOCK m p time) ⌝ }
@@ -73,7 +73,7 @@ pub fn clock(t: &[u8], m: u8, p: u8, time: u64) -> Decided
     answers::done(effect)
 }
 
-// "if the clock is greater than entry m": otherwise nothing is sent, and no room is asked for.
+// R49: where the clock is not greater than its own entry nothing is sent, and no room is asked for.
 pub fn beat(t: &[u8], m: u8, p: u8) -> Decided
     requires { ⌜ Long (now t) × T (wellFormed (now t)) × (m < load 1 (now t) 0) × (p < load 1 (now t) 1) ⌝ }
     ensures { λ r. ⌜ outcomeOf r ≡ answered (decode (now (t .entry))) (BEAT m p) ⌝ }
@@ -93,8 +93,7 @@ pub fn beat(t: &[u8], m: u8, p: u8) -> Decided
     answers::done(effect)
 }
 
-// Whether node (m, p) may stamp a record of a session with vector v: "the node's clock is greater than every entry of the session's vector and greater
-// than the node's own entry m".
+// R45: whether node (m, p) may stamp a record of a session with vector v. Its clock is greater than every entry of v and than its own entry.
 fn is_ready(t: &[u8], m: u8, p: u8, v: Vector) -> bool
     requires { ⌜ Long (now t) × (m < 4) × (p < 4) ⌝ }
     ensures { λ r. ⌜ r ≡ putReady (entry (v .e)) (heardIn (nodeOf (siteOf (now (t .entry)) m) p) m) (clockIn (nodeOf (siteOf (now (t .entry)) m) p)) ⌝ }

@@ -1,6 +1,6 @@
 -- Refusal 11 as the code tests it, field by field: each field's range, and a field that is zero where it is not used and in its range where it
 -- is. That this is `unusedZero` with the protocol's `ranges` is proved in proofs/Ranges.
-use Prim.Native.Nat.{ℕ, _-_, _^_, min}
+use Prim.Native.Nat.{ℕ, _-_, min}
 use mathlib.Core.Bool.{Bool, false, not, _&&_, _||_}
 use mathlib.Core.List.{List, [], _∷_}
 use lib.Dec.{leb, ltb, eqb}
@@ -9,6 +9,7 @@ use Rattle.codec.specs.Le.{load}
 use Rattle.codec.specs.Below.{allBelow}
 use Rattle.codec.specs.Tabulate.{tabulate}
 use Rattle.protocol.specs.Record.{Setting}
+use Rattle.protocol.specs.Times.{timeLimit}
 use Rattle.protocol.specs.Needs.{levelLawful}
 use Rattle.event.specs.declared.Fields.{Fields}
 use Rattle.event.specs.Fields.{uses, startOf, sizeOf, zeroAt, restZero}
@@ -28,7 +29,7 @@ inRange c x =
     ∷ ltb (x .quality) 3
     ∷ (ltb (x .from) (c .sites) && not (eqb (x .from) (x .site)))
     ∷ (ltb 0 (x .count) && leb (x .count) 8)
-    ∷ ltb (x .time) (2 ^ 48)
+    ∷ ltb (x .time) timeLimit
     ∷ levelLawful (x .level)
     ∷ keysBelow (x .keys) (x .count)
     ∷ []

@@ -1,9 +1,11 @@
 // The range of each field, whether its code uses it or not: refusal 11's numbers. In order: page keys, all ten fields. It touches nothing.
 ghost use mathlib.Core.Path.{_≡_};
 ghost use Prim.Native.Nat.{_≤_, min};
+ghost use Rattle.protocol.specs.Meaning.{settingOf};
 ghost use Rattle.event.specs.Ranges.{keysBelow, inRange};
 use crate::Fields;
 use protocol::limits;
+use protocol::limits::Setting;
 
 // How many of the eight page keys the count names.
 fn named(count: u8) -> usize
@@ -13,7 +15,7 @@ fn named(count: u8) -> usize
 }
 
 // The keys below the count, of the eight that there are, are 0 to 63.
-pub fn keys_lawful(keys: [u8; 8], count: u8) -> bool
+fn keys_lawful(keys: [u8; 8], count: u8) -> bool
     ensures { λ r. ⌜ r ≡ keysBelow keys count ⌝ }
 {
     let n = named(count);
@@ -27,17 +29,17 @@ pub fn keys_lawful(keys: [u8; 8], count: u8) -> bool
 }
 
 // A test for each field, in the order of the table of flags.
-pub fn in_range(x: Fields, sites: u8, partitions: u8) -> [bool; 10]
-    ensures { λ r. ⌜ r ≡ inRange (record { sites = sites; partitions = partitions }) x ⌝ }
+pub fn in_range(x: Fields, setting: Setting) -> [bool; 10]
+    ensures { λ r. ⌜ r ≡ inRange (settingOf setting) x ⌝ }
 {
     let keys = x.keys;
     [
-        x.site < sites,
-        x.partition < partitions,
+        x.site < setting.sites,
+        x.partition < setting.partitions,
         x.session < 16,
         x.key < 64,
         x.quality < 3,
-        (x.from < sites) & (x.from != x.site),
+        (x.from < setting.sites) & (x.from != x.site),
         (0 < x.count) & (x.count <= 8),
         x.time < 281474976710656,
         limits::level_lawful(x.level),

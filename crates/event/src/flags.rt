@@ -1,4 +1,4 @@
-// "Each code uses only the fields named for it in the table; all others must be zero." In order: the table of flags, and the tests
+// R31 and R33: each code uses the fields named for it, and all others are zero. In order: the table of flags, and the tests
 // for zero. It reads the event alone.
 ghost use mathlib.Core.Path.{_≡_};
 ghost use Prim.Native.Nat.{_<_};
@@ -51,7 +51,7 @@ pub fn zero(e: &[u8]) -> [bool; 10]
     ]
 }
 
-// "Page keys beyond the count are zero." Most events have no page keys at all.
+// R33: page keys beyond the count are zero. Most events have no page keys at all.
 pub fn rest_zero(e: &[u8]) -> bool
     requires { ⌜ length (now e) ≡ 32 ⌝ }
     ensures { λ r. ⌜ r ≡ restZero (now (e .entry)) ⌝ }

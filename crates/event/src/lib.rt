@@ -1,4 +1,4 @@
-// "An event is 32 bytes": what they say, and refusals 10 and 11. In order: the fields as values, the code, all the fields. Which code uses which
+// R30: what an event's 32 bytes say, and refusals 10 and 11. In order: the fields as values, the code, all the fields. Which code uses which
 // field is in flags, the range of each field in bounds. It reads the event alone.
 ghost use mathlib.Core.Path.{_≡_};
 ghost use mathlib.Core.Bool.{true, _&&_};
@@ -8,10 +8,12 @@ ghost use Rattle.codec.specs.Le.{load};
 ghost use Rattle.codec.specs.Below.{allBelow};
 ghost use Rattle.codec.specs.Tabulate.{tabulate};
 ghost use Rattle.protocol.specs.Needs.{ranges};
+ghost use Rattle.protocol.specs.Meaning.{settingOf};
 ghost use Rattle.event.specs.Fields.{unusedZero};
 ghost use Rattle.event.specs.Event.{codeLawful, eventOf, met};
 ghost use Rattle.event.specs.Values.{fieldsIn};
 ghost use Rattle.event.specs.Ranges.{fieldLawful};
+use protocol::limits::Setting;
 
 mod bounds;
 mod flags;
@@ -64,7 +66,7 @@ pub fn load_fields(e: &[u8]) -> Fields
     }
 }
 
-// "code isn't 1 to 10" is 10.
+// A code that is not 1 to 10 is refused with 10.
 pub fn code_lawful(e: &[u8]) -> bool
     requires { ⌜ length (now e) ≡ 32 ⌝ }
     ensures { λ r. ⌜ r ≡ codeLawful (now (e .entry)) ⌝ }
@@ -86,14 +88,14 @@ fn each_lawful(used: [bool; 10], zero: [bool; 10], within: [bool; 10]) -> bool
     all
 }
 
-// "a used field out of range or an unused one not zero" is 11.
-pub fn fields_lawful(e: &[u8], sites: u8, partitions: u8) -> bool
+// A used field out of range (R32) or an unused one that is not zero (R33) is refused with 11.
+pub fn fields_lawful(e: &[u8], setting: Setting) -> bool
     requires { ⌜ (length (now e) ≡ 32) × (codeLawful (now e) ≡ true) ⌝ }
-    ensures { λ r. ⌜ r ≡ (unusedZero (now (e .entry)) && met (ranges (record { sites = sites; partitions = partitions }) (eventOf (now (e .entry))))) ⌝ }
+    ensures { λ r. ⌜ r ≡ (unusedZero (now (e .entry)) && met (ranges (settingOf setting) (eventOf (now (e .entry))))) ⌝ }
 {
     let x = load_fields(e);
     let used = flags::used((x.code - 1) as usize);
-    let within = bounds::in_range(x, sites, partitions);
+    let within = bounds::in_range(x, setting);
     each_lawful(used, flags::zero(e), within)
         & (flags::rest_zero(e) & (codec::load_u32(e, 28) == 0))
 }

@@ -1,7 +1,7 @@
 -- The facts of a well-formed table. In order: those of a session, a node, a channel, and the table, each with the test that they follow from and
 -- give back (`formed`, `well-formed`); then what the table says is lawful
 -- (`says-lawful`).
-use Prim.Native.Nat.{ℕ, zero, suc, _+_, _-_, _^_, _≤_, _<_}
+use Prim.Native.Nat.{ℕ, zero, suc, _+_, _-_, _≤_, _<_}
 use native.Mathlib.Omega.{arith}
 use mathlib.Core.Path.{_≡_}
 use mathlib.Core.Bool.{Bool, true, false, cond, not, _&&_}
@@ -22,6 +22,7 @@ use Rattle.vector.proofs.Entries.{loadVec-beyond}
 use Rattle.protocol.specs.Record.{Setting, Rec, Msg}
 use Rattle.protocol.specs.State.{Mark}
 use Rattle.protocol.specs.Past.{_∈_}
+use Rattle.protocol.specs.Times.{timeLimit}
 use Rattle.record.specs.RecordBytes.{recordAt, messageAt}
 use Rattle.record.specs.Ranges.{timeLawful, vecLawful}
 use Rattle.record.specs.RecordFormed.{recordFormed, messageFormed}
@@ -234,7 +235,7 @@ module _ (t : List ℕ) (F : Formed t) where
       session-read (settingIn t) (sessionOf t s) (every-session (Fits w8) (fits-lit tt) t s (λ i b. bytes i)) (F .session s h .lawful)
 
   module _ (m p : ℕ) (h : m < 4) (g : p < 4) where
-    clock-said : decode t .net .clock m p < 2 ^ 48
+    clock-said : decode t .net .clock m p < timeLimit
     unfolding decode timeLawful
     clock-said = ltb-yes (F .node m p h g .clock)
 

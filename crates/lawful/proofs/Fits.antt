@@ -14,8 +14,9 @@ use Rattle.protocol.specs.Record.{Msg, Update, Heartbeat}
 use Rattle.protocol.specs.Event.{Event}
 use Rattle.protocol.specs.Change.{Change, SetSession, SetClock, Publish, Receive}
 use Rattle.protocol.specs.Step.{step}
+use Rattle.protocol.proofs.Times.{time-fits}
 use Rattle.record.specs.RecordBytes.{messageAt}
-use Rattle.record.proofs.Ranges.{time-fits, message-fits}
+use Rattle.record.proofs.Ranges.{message-fits}
 use Rattle.parts.specs.Channel.{ringAt, frontIn, waitIn, queueIn}
 use Rattle.parts.specs.Room.{Room}
 use Rattle.table.specs.Parts.{Long, placeOf, siteOf, nodeOf, channelOf}

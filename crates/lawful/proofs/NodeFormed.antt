@@ -1,6 +1,6 @@
 -- A node's bytes stay well formed: when its clock is set, and when a stamp and a lawful message come to it. In order: the clock, a stamp in one
 -- entry, an update stored behind the others, then its own message and another's.
-use Prim.Native.Nat.{ℕ, _+_, _*_, _^_, max, _≤_, _<_}
+use Prim.Native.Nat.{ℕ, _+_, _*_, max, _≤_, _<_}
 use native.Mathlib.Omega.{arith}
 use mathlib.Core.Path.{_≡_, _∙_}
 use mathlib.Core.List.{List}
@@ -14,12 +14,14 @@ use Rattle.codec.proofs.Le.{length-put, load-put, load-put-other}
 use Rattle.vector.specs.Vec.{withEntry}
 use Rattle.vector.proofs.Entries.{loadVec-below, loadVec-beyond}
 use Rattle.protocol.specs.Record.{Setting, Rec, Msg, Update, Heartbeat, stampIn}
+use Rattle.protocol.specs.Times.{timeLimit, topOf}
+use Rattle.protocol.proofs.Times.{time-fits, stamp-fits}
 use Rattle.record.specs.RecordBytes.{putRecord}
 use Rattle.record.specs.Ranges.{timeLawful, vecLawful}
 use Rattle.record.specs.RecordFormed.{recordFormed}
 use Rattle.record.proofs.Lengths.{length-putRecord}
 use Rattle.record.proofs.RecordBytes.{loadVec-ext, load-putRecord-other}
-use Rattle.record.proofs.Ranges.{time-fits, LawfulVec, vec-facts, vec-lawful, with-entry-lawful, LawfulRec, LawfulMsg, stamp-lawful}
+use Rattle.record.proofs.Ranges.{LawfulVec, vec-facts, vec-lawful, with-entry-lawful, LawfulRec, LawfulMsg, stamp-lawful}
 use Rattle.record.proofs.RecordFormed.{record-formed-ext, record-formed-put}
 use Rattle.parts.specs.Node.{slotAt, clockIn, heardIn, heldIn, clockSet, stored, published, received}
 use Rattle.parts.specs.Room.{Room}
@@ -42,7 +44,7 @@ module _ (c : Setting) (m p : ℕ) where
       slots = λ k b. rw (record-formed-ext c p (put w n at v) n (slotAt k) (λ u j a d. load-put-other u w n at v j (λ i e f g l. omega arith))) (F .slots k (omega (arith, held-before)));
     }
 
-  pub clock-kept : (t : ℕ) (n : List ℕ) → length n ≡ 1856 → t < 2 ^ 48 → NodeFacts c m p n → NodeFacts c m p (clockSet t n)
+  pub clock-kept : (t : ℕ) (n : List ℕ) → length n ≡ 1856 → t < timeLimit → NodeFacts c m p n → NodeFacts c m p (clockSet t n)
   unfolding clockSet timeLawful
   clock-kept t n l h F =
       facts-before n 8 0 t (omega arith) (rw (clock-clockSet t n l (time-fits t h)) (yes-ltb h))
@@ -54,12 +56,12 @@ module _ (c : Setting) (m p : ℕ) where
 
   -- ---- a stamp in entry i
 
-  module _ (n : List ℕ) (i v : ℕ) (l : length n ≡ 1856) (few : c .sites ≤ 4) (h : i < c .sites) (b : v < 2 ^ 48) where
+  module _ (n : List ℕ) (i v : ℕ) (l : length n ≡ 1856) (few : c .sites ≤ 4) (h : i < c .sites) (b : v < topOf c) where
     entry-kept : NodeFacts c m p n → NodeFacts c m p (put 8 n (8 + 8 * i) v)
     unfolding published stored stampIn
     entry-kept F =
         let clock : clockIn (put 8 n (8 + 8 * i) v) ≡ clockIn n = clock-published i (Heartbeat v) n l (omega arith) in
-        let heard : heardIn (put 8 n (8 + 8 * i) v) ≡ withEntry (heardIn n) i v = heard-published i (Heartbeat v) n l (omega arith) (time-fits v b) in
+        let heard : heardIn (put 8 n (8 + 8 * i) v) ≡ withEntry (heardIn n) i v = heard-published i (Heartbeat v) n l (omega arith) (stamp-fits c v b) in
         facts-before n 8 (8 + 8 * i) v (omega arith) (rw clock (F .clock))
         (rw heard (vec-lawful c (withEntry (heardIn n) i v) (with-entry-lawful c (heardIn n) i v (heard-lawful n F) h b))) F
 
@@ -109,7 +111,7 @@ module _ (c : Setting) (m p : ℕ) where
     room-entry (Heartbeat t) n i v h room = tt
 
     -- a lawful message of site i, with a stamp in its entry
-    message-kept : (i v : ℕ) (x : Msg) (n : List ℕ) → length n ≡ 1856 → i < c .sites → v < 2 ^ 48 → LawfulMsg c i p x → Room x n → NodeFacts c m p n → NodeFacts c m p (stored x (put 8 n (8 + 8 * i) v))
+    message-kept : (i v : ℕ) (x : Msg) (n : List ℕ) → length n ≡ 1856 → i < c .sites → v < topOf c → LawfulMsg c i p x → Room x n → NodeFacts c m p n → NodeFacts c m p (stored x (put 8 n (8 + 8 * i) v))
     message-kept i v x n l h b ok room F =
         stored-kept i x (put 8 n (8 + 8 * i) v) (length-put 8 n (8 + 8 * i) v ∙ l) ok (room-entry x n i v (omega arith) room) (entry-kept n i v l few h b F)
 

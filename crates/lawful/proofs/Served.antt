@@ -1,6 +1,6 @@
 -- What a step changes is lawful, where what it looks at is. In order: lawful changes, a session, what a page shows and what a message wants, then
 -- every event and every step. Of states alone: no bytes.
-use Prim.Native.Nat.{ℕ, _^_, _≤_, _<_}
+use Prim.Native.Nat.{ℕ, _≤_, _<_}
 use native.Mathlib.Nat.{mod-lt}
 use native.Mathlib.Omega.{arith}
 use mathlib.Core.Path.{_≡_, refl, ap}
@@ -16,6 +16,7 @@ use Rattle.codec.proofs.Tests.{cond-elim, implies}
 use Rattle.codec.proofs.Below.{all-below-at}
 use Rattle.vector.specs.Vec.{Vec, larger, withEntry}
 use Rattle.protocol.specs.Record.{Setting, partitionOf, Rec, Msg, Update, Heartbeat, newest, ofKey, fitsPage, raisedBy}
+use Rattle.protocol.specs.Times.{timeLimit, topOf}
 use Rattle.protocol.specs.State.{Mark, Page, Session, State, noPage, closed, opened, withVec, withPage}
 use Rattle.protocol.specs.Event.{Event, OPEN, CLOSE, CLOCK, GET, PUT, BEGIN, READ, END, BEAT, DELIVER}
 use Rattle.protocol.specs.View.{View, view}
@@ -24,6 +25,7 @@ use Rattle.protocol.specs.Change.{Change, SetSession, SetClock, Publish, Receiv
 use Rattle.protocol.specs.Serve.{written, unread, markRead, begun, readOn, taken, serve}
 use Rattle.protocol.specs.Step.{step}
 use Rattle.protocol.specs.Past.{_∈_}
+use Rattle.protocol.proofs.Times.{time-below-top}
 use Rattle.protocol.proofs.Judge.{Met, step-elim}
 use Rattle.protocol.proofs.Order.{NewestOf, newest-is}
 use Rattle.record.proofs.Ranges.{LawfulVec, zeros-lawful, larger-lawful, with-entry-lawful, raised-lawful, LawfulRec, LawfulMsg}
@@ -54,7 +56,7 @@ pub record LawfulReceive (i m p : ℕ) (x : Msg) (S : State) : Type 0 where
 
 abbrev pub Lawful : Change → State → Type 0
 Lawful (SetSession s x) S = (s < 16) × LawfulSession (S .net .setting) x
-Lawful (SetClock m p t) S = (m < S .net .setting .sites) × (p < S .net .setting .partitions) × (t < 2 ^ 48)
+Lawful (SetClock m p t) S = (m < S .net .setting .sites) × (p < S .net .setting .partitions) × (t < timeLimit)
 Lawful (Publish m p x) S = LawfulPublish m p x S
 Lawful (Receive i m p x) S = LawfulReceive i m p x S
 
@@ -159,6 +161,10 @@ module _ (S : State) (ok : LawfulState S) where
   part-lt : (k : ℕ) → partitionOf c k < c .partitions
   part-lt k = mod-lt k (ok .partition)
 
+  -- a clock's time can be a stamp
+  clock-stamps : (m p : ℕ) → m < 4 → p < 4 → S .net .clock m p < topOf c
+  clock-stamps m p h g = omega (arith, ok .clock m p h g, time-below-top c)
+
   -- a session that is open
   module _ (s : ℕ) (h : s < 16) (t : T (S .session s .isOpen)) where
     abbrev x : Session
@@ -188,7 +194,7 @@ module _ (S : State) (ok : LawfulState S) where
     put-set k q l a b d room ways =
         let p = partitionOf c k in
         let part = part-lt k in
-        let clock = ok .clock (x .site) p real (omega (arith, ok .partitions)) in
+        let clock = clock-stamps (x .site) p real (omega (arith, ok .partitions)) in
         let X = ok .session s h in (
           record {
             site = here;
@@ -253,7 +259,7 @@ module _ (S : State) (ok : LawfulState S) where
         record {
           site = site;
           partition = part;
-          msg = ok .clock m p (omega (arith, ok .sites)) (omega (arith, ok .partitions));
+          msg = clock-stamps m p (omega (arith, ok .sites)) (omega (arith, ok .partitions));
           room = tt;
           ways = send-room (view S (BEAT m p)) m p (implies sends (sendRoom (view S (BEAT m p)) m p) (t .0) u);
         },

@@ -1,7 +1,7 @@
 -- Lawful values as facts. In order: tests, a time's bytes, vectors and what raises them, levels, records, messages, pages, sessions, and a state. For each kind
 -- the facts, how they follow from the test and give it back, and that the value fits its bytes. A vector's facts say more than the test: it has no
 -- entry beyond the sites, at any number. Vectors that are read from bytes are so.
-use Prim.Native.Nat.{ℕ, _^_, _≤_, _<_}
+use Prim.Native.Nat.{ℕ, _≤_, _<_}
 use native.Mathlib.Omega.{arith}
 use mathlib.Core.Bool.{Bool, not, _&&_, _||_}
 use mathlib.Core.List.{List, [], _∷_}
@@ -11,6 +11,7 @@ use mir.Facts.{and-yes, yes-and, ltb-yes, leb-yes, yes-ltb, yes-leb}
 use Rattle.codec.proofs.Tests.{implies, yes-implies}
 use Rattle.vector.proofs.Entries.{Short}
 use Rattle.protocol.specs.Record.{Setting, Rec, Msg}
+use Rattle.protocol.specs.Times.{timeLimit}
 use Rattle.protocol.specs.State.{Mark, Page, Session, State}
 use Rattle.protocol.specs.Needs.{keysLawful, distinct}
 use Rattle.protocol.specs.Past.{_∈_}
@@ -114,7 +115,7 @@ pub record LawfulState (S : State) : Type 0 where
   pub partition : 0 < S .net .setting .partitions
   pub partitions : S .net .setting .partitions ≤ 4
   pub session : (s : ℕ) → s < 16 → LawfulSession (S .net .setting) (S .session s)
-  pub clock : (m p : ℕ) → m < 4 → p < 4 → S .net .clock m p < 2 ^ 48
+  pub clock : (m p : ℕ) → m < 4 → p < 4 → S .net .clock m p < timeLimit
   pub heard : (m p : ℕ) → m < 4 → p < 4 → LawfulVec (S .net .setting) (S .net .heard m p)
   pub store : (m p : ℕ) → m < 4 → p < 4 → (r : Rec) → r ∈ S .net .store m p → LawfulRec (S .net .setting) p r
   pub held : (m p : ℕ) → m < 4 → p < 4 → length (S .net .store m p) ≤ 32

@@ -1,34 +1,43 @@
-// "A table is well formed when": whether it is, computed over the whole table. It only reads, and of records and messages only those in use. In
+// R20 to R28: whether a table is well formed, computed over the whole table. It only reads, and of records and messages only those in use. In
 // order: the numbers of sites and partitions, the sessions, the sites, the table. What each thing must be stands in a file of its own.
 ghost use mathlib.Core.Path.{_≡_};
-ghost use Prim.Native.Nat.{ℕ, _<_};
-ghost use lib.ListN.{length};
+ghost use mathlib.Core.Bool.{_&&_};
+ghost use Prim.Native.Nat.{_<_};
+ghost use lib.Dec.{leb, ltb};
 ghost use Rattle.codec.specs.Below.{allBelow};
+ghost use Rattle.protocol.specs.Meaning.{settingOf};
 ghost use Rattle.table.specs.Parts.{Long, sessionOf, siteOf};
 ghost use Rattle.lawful.specs.Values.{settingLawful};
 ghost use Rattle.lawful.specs.WellFormed.{sessionFormed, siteFormed, wellFormed};
+use protocol::limits::Setting;
 use table::places;
 
-pub mod channels;
-pub mod nodes;
-pub mod pages;
-pub mod sessions;
-pub mod sites;
+mod channels;
+mod nodes;
+mod pages;
+mod sessions;
+mod sites;
 
-// "site and partition numbers are 1 to 4"
-pub fn setting_lawful(sites: u8, partitions: u8) -> bool
-    ensures { λ r. ⌜ r ≡ settingLawful (record { sites = sites; partitions = partitions }) ⌝ }
+// R20
+pub fn number_lawful(n: u32) -> bool
+    ensures { λ r. ⌜ r ≡ (ltb 0 n && leb n 4) ⌝ }
 {
-    ((0 < sites) & (sites <= 4)) & ((0 < partitions) & (partitions <= 4))
+    (0 < n) & (n <= 4)
 }
 
-pub fn sessions_formed(t: &[u8], sites: u8) -> bool
+pub fn setting_lawful(setting: Setting) -> bool
+    ensures { λ r. ⌜ r ≡ settingLawful (settingOf setting) ⌝ }
+{
+    number_lawful(setting.sites as u32) & number_lawful(setting.partitions as u32)
+}
+
+fn sessions_formed(t: &[u8], setting: Setting) -> bool
     requires { ⌜ Long (now t) ⌝ }
-    ensures { λ r. ⌜ ((partitions : ℕ) → r ≡ allBelow 16 (λ s. sessionFormed (record { sites = sites; partitions = partitions }) (sessionOf (now (t .entry)) s))) ⌝ }
+    ensures { λ r. ⌜ r ≡ allBelow 16 (λ s. sessionFormed (settingOf setting) (sessionOf (now (t .entry)) s)) ⌝ }
 {
     let mut s = 0;
     while s < 16 {
-        if !sessions::session_formed(places::session(t, s), sites) {
+        if !sessions::session_formed(places::session(t, s), setting) {
             return false;
         }
         s += 1;
@@ -36,13 +45,13 @@ pub fn sessions_formed(t: &[u8], sites: u8) -> bool
     true
 }
 
-pub fn sites_formed(t: &[u8], sites: u8, partitions: u8) -> bool
-    requires { ⌜ Long (now t) × (0 < partitions) ⌝ }
-    ensures { λ r. ⌜ r ≡ allBelow 4 (λ m. siteFormed (record { sites = sites; partitions = partitions }) m (siteOf (now (t .entry)) m)) ⌝ }
+fn sites_formed(t: &[u8], setting: Setting) -> bool
+    requires { ⌜ Long (now t) × (0 < setting .partitions) ⌝ }
+    ensures { λ r. ⌜ r ≡ allBelow 4 (λ m. siteFormed (settingOf setting) m (siteOf (now (t .entry)) m)) ⌝ }
 {
     let mut m = 0;
     while m < 4 {
-        if !sites::site_formed(places::site(t, m), sites, partitions, m) {
+        if !sites::site_formed(places::site(t, m), setting, m) {
             return false;
         }
         m += 1;
@@ -55,13 +64,12 @@ pub fn well_formed(t: &[u8]) -> bool
     requires { ⌜ Long (now t) ⌝ }
     ensures { λ r. ⌜ r ≡ wellFormed (now (t .entry)) ⌝ }
 {
-    let sites = codec::load_u8(t, 0);
-    let partitions = codec::load_u8(t, 1);
-    if !setting_lawful(sites, partitions) {
+    let setting = table::setting(t);
+    if !setting_lawful(setting) {
         return false;
     }
-    if !sessions_formed(t, sites) {
+    if !sessions_formed(t, setting) {
         return false;
     }
-    sites_formed(t, sites, partitions)
+    sites_formed(t, setting)
 }

@@ -9,7 +9,7 @@ ghost use Rattle.codec.specs.Tabulate.{tabulate};
 ghost use Rattle.protocol.specs.Needs.{keysLawful, holdsKey, distinct};
 
 // The key k is one of the n from `at`.
-pub fn holds_key(b: &[u8], at: usize, n: usize, k: u8) -> bool
+fn holds_key(b: &[u8], at: usize, n: usize, k: u8) -> bool
     requires { ⌜ at + n ≤ length (now b) ⌝ }
     ensures { λ r. ⌜ r ≡ holdsKey k (tabulate n (λ i. load 1 (now (b .entry)) (at + i))) ⌝ }
 {
@@ -24,7 +24,7 @@ pub fn holds_key(b: &[u8], at: usize, n: usize, k: u8) -> bool
 }
 
 // The n keys from `at` are 0 to 63 and differ: none is one of those before it.
-pub fn keys_formed(b: &[u8], at: usize, n: usize) -> bool
+fn keys_formed(b: &[u8], at: usize, n: usize) -> bool
     requires { ⌜ at + n ≤ length (now b) ⌝ }
     ensures { λ r. ⌜ r ≡ (keysLawful (tabulate n (λ i. load 1 (now (b .entry)) (at + i))) && distinct (tabulate n (λ i. load 1 (now (b .entry)) (at + i)))) ⌝ }
 {

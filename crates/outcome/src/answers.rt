@@ -55,7 +55,7 @@ pub fn raised_by(v: Vector, x: Found) -> Vector
     v.raised(carried, r.source as usize, r.stamp)
 }
 
-// "Every other answer has zeros after the number": a refusal, or the wait 3, and nothing changes.
+// A refusal, or the wait 3, with zeros after its number (R34); nothing changes.
 pub fn refused(number: u8) -> Decided
     ensures { λ r. ⌜ outcomeOf r ≡ (Answer.Refused (plain number) and []) ⌝ }
 {
@@ -96,7 +96,7 @@ pub fn done(effect: Effect) -> Decided
     }
 }
 
-// "The record carries the session's vector as it was before"; then the session's own entry becomes the stamp.
+// R45: the record carries the session's vector as it was before; then the session's own entry becomes the stamp.
 pub fn stored(s: u8, x: Session, p: u8, key: u8, quality: u8, level: i32, stamp: u64) -> Decided
     requires { ⌜ x .site < 4 ⌝ }
     ensures { λ r. ⌜ outcomeOf r ≡ (Stamped (x .site) stamp and Publish (x .site) p (Update (written (asSession x) key quality level stamp)) ∷ SetSession s (withVec (asSession x) (withEntry (asSession x .vec) (x .site) stamp)) ∷ []) ⌝ }

@@ -30,7 +30,7 @@ pub fn closed() -> Session
     }
 }
 
-// "zero vector, no page"
+// R41: zero vectors, no page.
 pub fn opened(m: u8) -> Session
     ensures { λ r. ⌜ asSession r ≡ opened m ⌝ }
 {

@@ -21,7 +21,7 @@ fn holds(keys: [u8; 8], count: usize, from: usize, k: u8) -> bool
     any
 }
 
-// "the same key twice on a page" is refused.
+// Whether no key stands twice (R46).
 pub fn distinct(keys: [u8; 8], count: usize) -> bool
     requires { ⌜ count ≤ 8 ⌝ }
     ensures { λ r. ⌜ r ≡ distinct (keysOn keys count) ⌝ }

@@ -1,4 +1,5 @@
 -- From the laws of the parts, by the invariant and its two halves, to the promises; then what is shown by closed runs.
+pub mod Times
 pub mod Order
 pub mod Search
 pub mod Shelf

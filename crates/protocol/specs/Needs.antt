@@ -1,6 +1,6 @@
 -- What each event needs, from top to bottom (R40 to R50, R60), and the number given where a need fails. 3 is a wait.
 -- 23, 24, 10 and the unused fields of 11 are about bytes and stand around the model.
-use Prim.Native.Nat.{ℕ, _^_, max}
+use Prim.Native.Nat.{ℕ, max}
 use mathlib.Core.Bool.{Bool, true, false, not, _&&_, _||_}
 use mathlib.Core.List.{List, [], _∷_}
 use lib.ListN.{length}
@@ -9,6 +9,7 @@ use lib.IntN.{ℤ, pos, negsuc}
 use Rattle.codec.specs.Below.{allBelow}
 use Rattle.vector.specs.Vec.{Vec, atMost, atMostBut, largest}
 use Rattle.protocol.specs.Record.{Setting, partitionOf, Rec, Msg, Update, Heartbeat}
+use Rattle.protocol.specs.Times.{timeLimit}
 use Rattle.protocol.specs.State.{Mark}
 use Rattle.protocol.specs.Event.{Event, OPEN, CLOSE, CLOCK, GET, PUT, BEGIN, READ, END, BEAT, DELIVER, Refusal, plain}
 use Rattle.protocol.specs.View.{View}
@@ -35,7 +36,7 @@ keysLawful (k ∷ ks) = ltb k 64 && keysLawful ks
 unfoldable pub ranges : Setting → Event → List Need
 ranges c (OPEN s m) = ltb m (c .sites) else 11 ∷ ltb s 16 else 11 ∷ []
 ranges c (CLOSE s) = ltb s 16 else 11 ∷ []
-ranges c (CLOCK m p t) = ltb m (c .sites) else 11 ∷ ltb p (c .partitions) else 11 ∷ ltb t (2 ^ 48) else 11 ∷ []
+ranges c (CLOCK m p t) = ltb m (c .sites) else 11 ∷ ltb p (c .partitions) else 11 ∷ ltb t timeLimit else 11 ∷ []
 ranges c (GET s k) = ltb s 16 else 11 ∷ ltb k 64 else 11 ∷ []
 ranges c (PUT s k q l) = ltb s 16 else 11 ∷ ltb k 64 else 11 ∷ ltb q 3 else 11 ∷ levelLawful l else 11 ∷ []
 ranges c (BEGIN s p ks) =

@@ -28,7 +28,7 @@ pub enum Answer {
     Refused(Refusal),
 }
 
-// "The answer is a value: number, source, quality, level, stamp." C and Rust see this struct.
+// R34: number, source, quality, level and stamp. C and Rust see this struct.
 #[repr(C)]
 pub struct Values {
     pub number: u8,

@@ -1,6 +1,6 @@
 -- Records and messages in well-formed bytes. In order: equal bytes are formed alike, and what is put is formed where the value is lawful: a record, a
 -- heartbeat's zeros, a message.
-use Prim.Native.Nat.{ℕ, _+_, _*_, _^_, _≤_, _<_, _-_}
+use Prim.Native.Nat.{ℕ, _+_, _*_, _≤_, _<_, _-_}
 use native.Mathlib.Decide.{decLt}
 use native.Mathlib.Omega.{arith}
 use mathlib.Core.Path.{_≡_, sym, ap, subst}
@@ -21,13 +21,15 @@ use Rattle.vector.specs.Vec.{width, zeros}
 use Rattle.vector.specs.Entries.{loadVec}
 use Rattle.vector.proofs.Entries.{loadVec-beyond}
 use Rattle.protocol.specs.Record.{Setting, Rec, Msg, Update, Heartbeat}
+use Rattle.protocol.specs.Times.{topOf}
 use Rattle.protocol.specs.Needs.{levelLawful}
+use Rattle.protocol.proofs.Times.{stamp-fits}
 use Rattle.record.specs.RecordBytes.{recordAt, messageAt, putRecord, putMessage}
 use Rattle.record.specs.Fits.{FitsRec}
 use Rattle.record.specs.Ranges.{recordLawful, messageLawful}
 use Rattle.record.specs.RecordFormed.{recordFormed, heartbeatFormed, messageFormed}
 use Rattle.record.proofs.RecordBytes.{Same, loadVec-ext, record-ext, message-ext, putKind, kind-put, record-putKind, record-putRecord, message-putMessage}
-use Rattle.record.proofs.Ranges.{time-fits, vec-fits, zeros-lawful, level-fits, LawfulRec, record-lawful, record-fits, LawfulMsg, message-lawful, message-fits, ShortMsg, record-facts, message-facts}
+use Rattle.record.proofs.Ranges.{vec-fits, zeros-lawful, level-fits, LawfulRec, record-lawful, record-fits, LawfulMsg, message-lawful, message-fits, ShortMsg, record-facts, message-facts}
 
 -- ---- equal bytes are formed alike
 
@@ -92,11 +94,11 @@ heartbeat-formed i t b at e =
       ),
     )
 
-beat-fits : (c : Setting) (i t : ℕ) → c .sites ≤ 4 → i < 4 → t < 2 ^ 48 → FitsRec (beat i t)
+beat-fits : (c : Setting) (i t : ℕ) → c .sites ≤ 4 → i < 4 → t < topOf c → FitsRec (beat i t)
 beat-fits c i t few h g = record {
   key = omega arith;
   source = omega arith;
-  stamp = time-fits t g;
+  stamp = stamp-fits c t g;
   quality = omega arith;
   level = level-fits (pos 0) (unfold levelLawful in tt);
   carried = vec-fits c zeros few (zeros-lawful c);

@@ -1,5 +1,5 @@
--- What is lawful of a time and a vector (R23), a record (R26) and a message (R27).
-use Prim.Native.Nat.{ℕ, _^_}
+-- What is lawful of a time, a stamp and a vector (R23), a record (R26) and a message (R27).
+use Prim.Native.Nat.{ℕ}
 use mathlib.Core.Bool.{Bool, cond, _&&_}
 use mathlib.Core.List.{List, [], _∷_}
 use lib.Dec.{ltb, eqb}
@@ -7,15 +7,20 @@ use Rattle.codec.specs.Below.{allBelow}
 use Rattle.codec.specs.Tests.{every}
 use Rattle.vector.specs.Vec.{Vec, width}
 use Rattle.protocol.specs.Record.{Setting, partitionOf, Rec, Msg, Update, Heartbeat}
+use Rattle.protocol.specs.Times.{timeLimit, topOf}
 use Rattle.protocol.specs.Needs.{levelLawful}
 
--- R5
+-- R5, of clocks
 unfoldable pub timeLawful : ℕ → Bool
-timeLawful t = ltb t (2 ^ 48)
+timeLawful t = ltb t timeLimit
+
+-- R5, of stamps and entries of vectors
+unfoldable pub stampLawful : Setting → ℕ → Bool
+stampLawful c t = ltb t (topOf c)
 
 -- R23: entries of sites that exist are within the time limit, all others 0
 unfoldable pub vecLawful : Setting → Vec → Bool
-vecLawful c v = allBelow width (λ i. cond (ltb i (c .sites)) (timeLawful (v i)) (eqb (v i) 0))
+vecLawful c v = allBelow width (λ i. cond (ltb i (c .sites)) (stampLawful c (v i)) (eqb (v i) 0))
 
 -- R26, whatever the partition: each field of a record in its range
 abbrev pub fieldTests : Setting → Rec → List Bool
@@ -24,7 +29,7 @@ fieldTests c r =
     ∷ ltb (r .id .source) (c .sites)
     ∷ ltb (r .quality) 3
     ∷ levelLawful (r .level)
-    ∷ timeLawful (r .id .stamp)
+    ∷ stampLawful c (r .id .stamp)
     ∷ vecLawful c (r .carried)
     ∷ []
 
@@ -38,4 +43,4 @@ recordLawful c p r = eqb (partitionOf c (r .id .key)) p && recordInRange c r
 -- R27: a message of the channel from site i at partition p
 unfoldable pub messageLawful : Setting → (i p : ℕ) → Msg → Bool
 messageLawful c i p (Update r) = eqb (r .id .source) i && recordLawful c p r
-messageLawful c i p (Heartbeat t) = timeLawful t
+messageLawful c i p (Heartbeat t) = stampLawful c t

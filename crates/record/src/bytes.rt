@@ -1,4 +1,4 @@
-// "A record, and an update in transit, is 48 bytes, little-endian": a record and a message at a place of the bytes, read and written.
+// R17: a record and a message at a place of the bytes, read and written.
 // In order: reading, a letter's stamp and kind, writing.
 ghost use mathlib.Core.Path.{_≡_};
 ghost use Prim.Native.Nat.{_+_, _≤_};
@@ -14,7 +14,7 @@ use crate::Message;
 use crate::Record;
 use vector::Vector;
 
-// "A stored record has kind 1"
+// A stored record has kind 1.
 const UPDATE: u8 = 1;
 
 const HEARTBEAT: u8 = 2;
@@ -123,7 +123,7 @@ fn store_fields(
     vector::store_vector(b, at + 16, carried);
 }
 
-// "A heartbeat has key, quality, level and vector zero": its source is the site m that sends it.
+// A heartbeat has key, quality, level and vector zero; its source is the site m that sends it.
 pub fn store_message(b: &mut [u8], at: usize, m: u8, x: Letter)
     requires { ⌜ at + 48 ≤ length (now b) ⌝ }
     ensures { λ _. ⌜ now (b .exit) ≡ putMessage (now (b .entry)) at m (asMessage x) ⌝ }

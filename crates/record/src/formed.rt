@@ -1,25 +1,26 @@
-// "each record and message in use has a lawful kind, its channel's source (for a message) or an existing source (for a record), and, save in a
-// heartbeat with its zeros, a key of its partition, and level and quality in range". In order: a record's fields, a record of a partition, a stored
+// R26 and R27: when a record and a message in use are well formed. In order: a record's fields, a record of a partition, a stored
 // record, an update, a heartbeat, a message.
 ghost use mathlib.Core.Path.{_≡_};
-ghost use Prim.Native.Nat.{ℕ, _+_, _≤_, _<_};
+ghost use Prim.Native.Nat.{_+_, _≤_, _<_};
 ghost use lib.ListN.{length};
 ghost use Rattle.protocol.specs.Record.{Update};
+ghost use Rattle.protocol.specs.Meaning.{settingOf};
 ghost use Rattle.record.specs.RecordBytes.{recordAt};
 ghost use Rattle.record.specs.Ranges.{recordInRange, recordLawful, messageLawful};
 ghost use Rattle.record.specs.RecordFormed.{recordFormed, heartbeatFormed, messageFormed};
 use crate::times;
 use protocol::limits;
+use protocol::limits::Setting;
 
 // The fields of the record at `at`. Each is loaded where it is tested, so that a lawful one costs one comparison.
-pub fn record_in_range(b: &[u8], at: usize, sites: u8) -> bool
+pub fn record_in_range(b: &[u8], at: usize, setting: Setting) -> bool
     requires { ⌜ at + 48 ≤ length (now b) ⌝ }
-    ensures { λ r. ⌜ ((partitions : ℕ) → r ≡ recordInRange (record { sites = sites; partitions = partitions }) (recordAt (now (b .entry)) at)) ⌝ }
+    ensures { λ r. ⌜ r ≡ recordInRange (settingOf setting) (recordAt (now (b .entry)) at) ⌝ }
 {
     if 64 <= codec::load_u8(b, at) {
         return false;
     }
-    if sites <= codec::load_u8(b, at + 1) {
+    if setting.sites <= codec::load_u8(b, at + 1) {
         return false;
     }
     if 3 <= codec::load_u8(b, at + 2) {
@@ -28,48 +29,48 @@ pub fn record_in_range(b: &[u8], at: usize, sites: u8) -> bool
     if !limits::level_lawful(codec::load_level(b, at + 4)) {
         return false;
     }
-    if !times::time_lawful(codec::load_u64(b, at + 8)) {
+    if !times::stamp_lawful(codec::load_u64(b, at + 8), setting) {
         return false;
     }
-    times::vector_formed(b, at + 16, sites)
+    times::vector_formed(b, at + 16, setting)
 }
 
 // The record at `at`, of partition p.
-pub fn record_lawful(b: &[u8], at: usize, sites: u8, partitions: u8, p: u8) -> bool
-    requires { ⌜ (at + 48 ≤ length (now b)) × (0 < partitions) ⌝ }
-    ensures { λ r. ⌜ r ≡ recordLawful (record { sites = sites; partitions = partitions }) p (recordAt (now (b .entry)) at) ⌝ }
+pub fn record_lawful(b: &[u8], at: usize, setting: Setting, p: u8) -> bool
+    requires { ⌜ (at + 48 ≤ length (now b)) × (0 < setting .partitions) ⌝ }
+    ensures { λ r. ⌜ r ≡ recordLawful (settingOf setting) p (recordAt (now (b .entry)) at) ⌝ }
 {
-    if limits::partition_of(codec::load_u8(b, at), partitions) != p {
+    if limits::partition_of(codec::load_u8(b, at), setting.partitions) != p {
         return false;
     }
-    record_in_range(b, at, sites)
+    record_in_range(b, at, setting)
 }
 
-// "A stored record has kind 1"
-pub fn record_formed(n: &[u8], at: usize, sites: u8, partitions: u8, p: u8) -> bool
-    requires { ⌜ (at + 48 ≤ length (now n)) × (0 < partitions) ⌝ }
-    ensures { λ r. ⌜ r ≡ recordFormed (record { sites = sites; partitions = partitions }) p (now (n .entry)) at ⌝ }
+// A stored record has kind 1.
+pub fn record_formed(n: &[u8], at: usize, setting: Setting, p: u8) -> bool
+    requires { ⌜ (at + 48 ≤ length (now n)) × (0 < setting .partitions) ⌝ }
+    ensures { λ r. ⌜ r ≡ recordFormed (settingOf setting) p (now (n .entry)) at ⌝ }
 {
     if codec::load_u8(n, at + 3) != 1 {
         return false;
     }
-    record_lawful(n, at, sites, partitions, p)
+    record_lawful(n, at, setting, p)
 }
 
 // What stands at `at`, as an update of site i.
-pub fn update_formed(b: &[u8], at: usize, sites: u8, partitions: u8, i: u8, p: u8) -> bool
-    requires { ⌜ (at + 48 ≤ length (now b)) × (0 < partitions) ⌝ }
-    ensures { λ r. ⌜ r ≡ messageLawful (record { sites = sites; partitions = partitions }) i p (Update (recordAt (now (b .entry)) at)) ⌝ }
+fn update_formed(b: &[u8], at: usize, setting: Setting, i: u8, p: u8) -> bool
+    requires { ⌜ (at + 48 ≤ length (now b)) × (0 < setting .partitions) ⌝ }
+    ensures { λ r. ⌜ r ≡ messageLawful (settingOf setting) i p (Update (recordAt (now (b .entry)) at)) ⌝ }
 {
     if codec::load_u8(b, at + 1) != i {
         return false;
     }
-    record_lawful(b, at, sites, partitions, p)
+    record_lawful(b, at, setting, p)
 }
 
-// "A heartbeat has key, quality, level and vector zero". Wide numbers are compared with the key, which is 0: with a plain 0 they would be
+// R27: a heartbeat's zeros. Wide numbers are compared with the key, which is 0: with a plain 0 they would be
 // compared byte by byte.
-pub fn heartbeat_formed(b: &[u8], at: usize, i: u8) -> bool
+fn heartbeat_formed(b: &[u8], at: usize, i: u8) -> bool
     requires { ⌜ at + 48 ≤ length (now b) ⌝ }
     ensures { λ r. ⌜ r ≡ heartbeatFormed i (now (b .entry)) at ⌝ }
 {
@@ -84,16 +85,16 @@ pub fn heartbeat_formed(b: &[u8], at: usize, i: u8) -> bool
 }
 
 // A message of the channel from site i at partition p: kind 1 is an update, 2 a heartbeat.
-pub fn message_formed(b: &[u8], at: usize, sites: u8, partitions: u8, i: u8, p: u8) -> bool
-    requires { ⌜ (at + 48 ≤ length (now b)) × (0 < partitions) ⌝ }
-    ensures { λ r. ⌜ r ≡ messageFormed (record { sites = sites; partitions = partitions }) i p (now (b .entry)) at ⌝ }
+pub fn message_formed(b: &[u8], at: usize, setting: Setting, i: u8, p: u8) -> bool
+    requires { ⌜ (at + 48 ≤ length (now b)) × (0 < setting .partitions) ⌝ }
+    ensures { λ r. ⌜ r ≡ messageFormed (settingOf setting) i p (now (b .entry)) at ⌝ }
 {
     let kind = codec::load_u8(b, at + 3);
     if kind == 1 {
-        return update_formed(b, at, sites, partitions, i, p);
+        return update_formed(b, at, setting, i, p);
     }
     if kind != 2 {
         return false;
     }
-    heartbeat_formed(b, at, i) & times::time_lawful(codec::load_u64(b, at + 8))
+    heartbeat_formed(b, at, i) & times::stamp_lawful(codec::load_u64(b, at + 8), setting)
 }

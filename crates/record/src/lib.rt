@@ -1,4 +1,4 @@
-// "A record, and an update in transit, is 48 bytes, little-endian." Here are the values that the code holds: a record, a message, and a letter, which is a
+// A record's and a message's 48 bytes (R17). Here are the values that the code holds: a record, a message, and a letter, which is a
 // message with the vector that an update carries. The files: bytes (read and written), times (what is lawful of a time and a vector), formed (what is lawful of
 // a record's and a message's bytes).
 use vector::Vector;
@@ -17,7 +17,7 @@ pub struct Record {
     pub carried: Vector,
 }
 
-// "a delivery carries one message, which is either an update or a heartbeat": numbers, an update's vector stands beside it.
+// R16: an update or a heartbeat. It holds numbers; an update's vector stands beside it.
 pub enum Message {
     Update {
         key: u8,

@@ -44,7 +44,7 @@ fn is_candidate(n: &[u8], at: usize, key: u8, paged: bool, page: Vector) -> bool
     true
 }
 
-// Whether the record at `at` is newer than the one at `other`: "the greater stamp; at equal stamps the greater site number".
+// Whether the record at `at` is newer than the one at `other`: R35.
 fn is_newer(n: &[u8], at: usize, other: usize) -> bool
     requires { ⌜ (at + 48 ≤ length (now n)) × (other + 48 ≤ length (now n)) ⌝ }
     ensures { λ r. ⌜ ((c : Setting) → r ≡ newer c (recordAt (now (n .entry)) at .id) (recordAt (now (n .entry)) other .id)) ⌝ }
@@ -75,7 +75,7 @@ fn better(n: &[u8], k: usize, best: usize, key: u8, paged: bool, page: Vector) -
 }
 
 // The place of the newest of the first `held` records of a node that fits.
-pub fn newest_place(n: &[u8], held: usize, key: u8, paged: bool, page: Vector) -> usize
+fn newest_place(n: &[u8], held: usize, key: u8, paged: bool, page: Vector) -> usize
     requires { ⌜ (length (now n) ≡ 1856) × (held ≤ 32) ⌝ }
     ensures { λ r. ⌜ (r ≤ held) × ((c : Setting) → r ≡ newestPlace c (fitsRead paged key (entry (page .e))) (λ k. recordAt (now (n .entry)) (slotAt k)) held) ⌝ }
 {

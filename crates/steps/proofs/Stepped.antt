@@ -7,7 +7,7 @@ use mathlib.Core.Bool.{Bool, true, false, cond, not, _&&_}
 use mathlib.Core.List.{List, [], _∷_}
 use lib.Dec.{T}
 use mir.Facts.{T-not, and-yes, yes-and, and-no}
-use Rattle.codec.specs.Le.{load}
+use Rattle.protocol.specs.Record.{Setting}
 use Rattle.protocol.specs.State.{State}
 use Rattle.protocol.specs.Event.{Event, plain}
 use Rattle.protocol.specs.declared.Answer.the-variants.{Refused}
@@ -74,9 +74,8 @@ step-unmet S e t = step-out-of-range S e (λ m. T-not (metBy S e) (is-met (range
 
 -- ---- the code's tests
 
-pub test-by : (t e : List ℕ) (sites partitions : ℕ) → sites ≡ load 1 t 0 → partitions ≡ load 1 t 1 →
-    (unusedZero e && met (ranges (record { sites = sites; partitions = partitions }) (eventOf e))) ≡ fieldsTest t e
-test-by t e sites partitions a b = λ i. unusedZero e && met (ranges (record { sites = a i; partitions = b i }) (eventOf e))
+pub test-by : (t e : List ℕ) (c : Setting) → c ≡ settingIn t → (unusedZero e && met (ranges c (eventOf e))) ≡ fieldsTest t e
+test-by t e c same = ap (λ d. unusedZero e && met (ranges d (eventOf e))) same
 
 pub code-unlawful : (t e : List ℕ) → T (not (codeLawful e)) → stepOn t e ≡ refused 10 t
 unfolding stepOn

@@ -57,9 +57,8 @@ pub fn step(t: &mut [u8], e: &[u8]) -> Answer
     if !event::code_lawful(e) {
         return pieces::refused(10);
     }
-    let sites = codec::load_u8(t, 0);
-    let partitions = codec::load_u8(t, 1);
-    if !event::fields_lawful(e, sites, partitions) {
+    let setting = table::setting(t);
+    if !event::fields_lawful(e, setting) {
         return pieces::refused(11);
     }
     let d = decide(t, e);

@@ -14,7 +14,7 @@ use crate::pieces;
 use protocol::Answer;
 
 // A piece of the event bytes: all but the last have 32 bytes.
-pub fn piece(t: &mut [u8], e: &[u8]) -> Answer
+fn piece(t: &mut [u8], e: &[u8]) -> Answer
     requires { ⌜ Long (now t) × T (wellFormed (now t)) ⌝ }
     ensures { λ r. ⌜ gives r (now (t .exit)) ≡ pieceCall (now (t .entry)) (now (e .entry)) ⌝ }
 {
@@ -26,7 +26,7 @@ pub fn piece(t: &mut [u8], e: &[u8]) -> Answer
 }
 
 // Piece i, and its answer.
-pub fn answer_piece(t: &mut [u8], es: &[u8], b: &mut [u8], i: usize)
+fn answer_piece(t: &mut [u8], es: &[u8], b: &mut [u8], i: usize)
     requires { ⌜ Long (now t) × T (wellFormed (now t)) × (16 * i + 16 ≤ length (now b)) ⌝ }
     ensures { λ _. ⌜ ran (now (t .exit)) (now (b .exit)) ≡ pieceAnswered pieceCall i (now (t .entry)) (now (es .entry)) (now (b .entry)) ⌝ }
 {
@@ -54,7 +54,7 @@ fn number_for(size: usize, number: u8) -> u8
 }
 
 // Piece i of a table that is refused with the number.
-pub fn refuse_piece(es: &[u8], b: &mut [u8], i: usize, number: u8)
+fn refuse_piece(es: &[u8], b: &mut [u8], i: usize, number: u8)
     requires { ⌜ 16 * i + 16 ≤ length (now b) ⌝ }
     ensures { λ _. ⌜ ((t : List ℕ) → ran t (now (b .exit)) ≡ pieceAnswered (pieceRefused number) i t (now (es .entry)) (now (b .entry))) ⌝ }
 {

@@ -8,7 +8,7 @@ use lib.Dec.{ltb}
 use lib.ListN.{length}
 use Rattle.codec.specs.Part.{partOf, onPart}
 
--- "exactly 57,344 bytes"
+-- R10: exactly 57,344 bytes
 abbrev pub tableLength : ℕ
 tableLength = 57344
 

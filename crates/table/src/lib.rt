@@ -5,6 +5,7 @@ ghost use mathlib.Core.Path.{_≡_};
 ghost use Prim.Native.Nat.{_-_, _≤_, _<_};
 ghost use lib.ListN.{length};
 ghost use Rattle.codec.specs.Le.{load};
+ghost use Rattle.protocol.specs.Meaning.{settingOf};
 ghost use Rattle.protocol.specs.Change.{SetSession, SetClock, Publish, Receive};
 ghost use Rattle.record.specs.Meaning.{asMessage};
 ghost use Rattle.parts.specs.Node.{received};
@@ -12,10 +13,12 @@ ghost use Rattle.parts.specs.Channel.{waitIn, popped};
 ghost use Rattle.parts.specs.Room.{Room};
 ghost use Rattle.parts.specs.Meaning.{asSession};
 ghost use Rattle.table.specs.Parts.{Long, placeOf, siteOf, nodeOf, channelOf, onSite, onNode, onChannel};
+ghost use Rattle.table.specs.Decode.{settingIn};
 ghost use Rattle.table.specs.Put.{putChange};
 ghost use Rattle.table.specs.Free.{Free};
 use parts::Session;
 use parts::sessions;
+use protocol::limits::Setting;
 use record::Letter;
 
 pub mod places;
@@ -27,6 +30,17 @@ pub fn place_of(i: usize, m: usize) -> usize
     ensures { λ r. ⌜ (r ≡ placeOf i m) × (r < 3) ⌝ }
 {
     if m < i { m } else { m - 1 }
+}
+
+// Bytes 0 and 1.
+pub fn setting(t: &[u8]) -> Setting
+    requires { ⌜ Long (now t) ⌝ }
+    ensures { λ r. ⌜ settingOf r ≡ settingIn (now (t .entry)) ⌝ }
+{
+    Setting {
+        sites: codec::load_u8(t, 0),
+        partitions: codec::load_u8(t, 1),
+    }
 }
 
 pub fn set_session(t: &mut [u8], s: usize, x: Session)

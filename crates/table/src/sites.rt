@@ -63,7 +63,7 @@ fn push(site: &mut [u8], m: u8, p: usize, d: usize, x: Letter)
 }
 
 // A message of site m goes into the first n channels of partition p.
-pub fn send(site: &mut [u8], n: usize, m: u8, p: usize, x: Letter)
+fn send(site: &mut [u8], n: usize, m: u8, p: usize, x: Letter)
     requires { ⌜ (length (now site) ≡ 13056) × (n ≤ 3) × (p < 4) × Free n p (now site) ⌝ }
     ensures { λ _. ⌜ now (site .exit) ≡ sentTo n m p (asMessage x) (now (site .entry)) ⌝ }
 {

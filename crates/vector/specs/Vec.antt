@@ -5,7 +5,7 @@ use mathlib.Core.Bool.{Bool, cond, _||_}
 use lib.Dec.{leb, eqb}
 use Rattle.codec.specs.Below.{allBelow}
 
--- "A vector has four entries and an all-zero start"
+-- R11
 abbrev pub width : ℕ
 width = 4
 
@@ -43,6 +43,6 @@ atLeast v m t i = cond (eqb i m) (max (v i) t) (v i)
 unfoldable pub larger : Vec → Vec → Vec
 larger v w i = max (v i) (w i)
 
--- "the entrywise larger of its own and the record's, then its source entry to at least the stamp"
+-- R37
 unfoldable pub raised : Vec → Vec → ℕ → ℕ → Vec
 raised v carried source stamp = atLeast (larger v carried) source stamp

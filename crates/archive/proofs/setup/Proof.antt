@@ -1,7 +1,8 @@
 -- `archive::setup` meets its contract: the tests by `setup-23`, `setup-11` and `setup-done`, the bytes by what `clear` and the two stores ensure.
-use mathlib.Core.Path.{sym, ap, _∙_}
+use mathlib.Core.Path.{_≡_, sym, ap, _∙_}
+use mathlib.Core.Bool.{_&&_}
 use borrow.Author.Needs.{needs}
-use borrow.Author.Tests.{not-true, not-false}
+use Rattle.codec.proofs.Tests.{fails, passes}
 use Rattle.protocol.specs.declared.Answer.the-variants.{Done}
 use Rattle.lawful.specs.Values.{settingLawful}
 use Rattle.steps.specs.Step.{gives}
@@ -17,14 +18,26 @@ returns c =
     let a = c .before .before .before .args in
     ap (λ r. gives r (a .table .now)) (c .refused .ensures) ∙ sym (setup-23 (a .table .now) (a .sites) (a .partitions) (c .before .if1 .taken))
 
+number-lawful-requires : tie.Need-number-lawful-requires
+number-lawful-requires c κs = search needs
+
+number-lawful-requires-2 : tie.Need-number-lawful-requires-2
+number-lawful-requires-2 c κs = search needs
+
+-- the two tests are the setting's
+lawful-is : (k : tie.After-number-lawful2) → let a = k .before .before .before .before .args in
+    (k .before .number-lawful .result && k .number-lawful2 .result) ≡ settingLawful (record { sites = a .sites; partitions = a .partitions })
+unfolding settingLawful
+lawful-is k = rw (k .before .number-lawful .ensures, k .number-lawful2 .ensures)
+
 refused-requires-2 : tie.Need-refused-requires-2
 refused-requires-2 c κs = search needs
 
 returns-2 : tie.Need-returns-2
-unfolding settingLawful
 returns-2 c =
-    let a = c .before .before .before .before .args in
-    ap (λ r. gives r (a .table .now)) (c .refused2 .ensures) ∙ sym (setup-11 (a .table .now) (a .sites) (a .partitions) (search needs) (not-true _ (c .before .if2 .taken)))
+    let k = c .before .before in
+    let a = k .before .before .before .before .args in
+    ap (λ r. gives r (a .table .now)) (c .refused2 .ensures) ∙ sym (setup-11 (a .table .now) (a .sites) (a .partitions) (search needs) (fails (lawful-is k) (c .before .if2 .taken)))
 
 clear-requires : tie.Need-clear-requires
 clear-requires c κs = search needs
@@ -39,13 +52,13 @@ same-length : tie.Need-same-length
 same-length c = search needs
 
 returns-3 : tie.Need-returns-3
-unfolding settingLawful
 returns-3 c =
     let z = c .before .before in
     let y = z .before .before .before .before in
     let x = y .before .before .before .before in
-    let a = x .before .before .before .before .before .args in
-    ap (λ t. gives Done t) (z .store-le2 .ensures ∙ rw (y .store-le .ensures, x .clear .ensures)) ∙ sym (setup-done (a .table .now) (a .sites) (a .partitions) (search needs) (not-false _ (x .before .before .if2 .left)))
+    let k = x .before .before .before in
+    let a = k .before .before .before .before .args in
+    ap (λ t. gives Done t) (z .store-le2 .ensures ∙ rw (y .store-le .ensures, x .clear .ensures)) ∙ sym (setup-done (a .table .now) (a .sites) (a .partitions) (search needs) (passes (lawful-is k) (x .before .before .if2 .left)))
 
 pub setup-spec : {M : Type 1} → statement M
 setup-spec =
@@ -53,6 +66,8 @@ setup-spec =
     (tie.spec
     refused-requires
     returns
+    number-lawful-requires
+    number-lawful-requires-2
     refused-requires-2
     returns-2
     clear-requires

@@ -6,6 +6,7 @@ use native.Mathlib.Omega.{arith}
 use Rattle.codec.specs.Below.{allBelow}
 use Rattle.codec.proofs.Tests.{fails, passes}
 use Rattle.codec.proofs.Below.{allBelow-none, allBelow-more, allBelow-fails}
+use Rattle.protocol.specs.Meaning.{settingOf}
 use Rattle.table.specs.Parts.{siteOf}
 use Rattle.lawful.specs.WellFormed.{siteFormed}
 use Rattle.lawful.proofs.sites_formed.Statement.{statement}
@@ -13,10 +14,10 @@ use Rattle.lawful.proofs.sites_formed.Tie as tie
 use borrow.Author.Needs.{needs}
 
 abbrev Inv-loop : tie.InvT-loop
-Inv-loop t sites partitions m₀ m = (m ≤ 4) × (allBelow m (λ k. siteFormed (record { sites = sites; partitions = partitions }) k (siteOf t k)) ≡ true)
+Inv-loop t setting m₀ m = (m ≤ 4) × (allBelow m (λ k. siteFormed (settingOf setting) k (siteOf t k)) ≡ true)
 
 abbrev μ-loop : tie.MeasureT-loop
-μ-loop t sites partitions m₀ m = 4 - m
+μ-loop t setting m₀ m = 4 - m
 
 loop-holds : tie.Need-loop-holds Inv-loop μ-loop
 loop-holds c = (omega arith, allBelow-none _)

@@ -19,11 +19,8 @@ parts-some c h =
     let both = and-yes (ltb 0 (c .sites) && leb (c .sites) 4) (ltb 0 (c .partitions) && leb (c .partitions) 4) (subst T (sym h) tt) in
     ltb-yes (and-yes (ltb 0 (c .partitions)) (leb (c .partitions) 4) (both .1) .0)
 
-load-u8-requires : tie.Need-load-u8-requires
-load-u8-requires c κs = search needs
-
-load-u8-requires-2 : tie.Need-load-u8-requires-2
-load-u8-requires-2 c κs = search needs
+setting-requires : tie.Need-setting-requires
+setting-requires c κs = search needs
 
 setting-lawful-requires : tie.Need-setting-lawful-requires
 setting-lawful-requires c κs = search needs
@@ -32,8 +29,7 @@ returns : tie.Need-returns
 unfolding wellFormed
 returns c =
     let no = fails (c .before .setting-lawful .ensures) (c .if1 .taken) in
-    let loads = c .before .before in
-    rw (← loads .load-u82 .ensures, ← loads .before .load-u8 .ensures, no)
+    rw (← c .before .before .setting .ensures, no)
 
 sessions-formed-requires : tie.Need-sessions-formed-requires
 sessions-formed-requires c κs = search needs
@@ -43,10 +39,9 @@ unfolding wellFormed
 returns-2 c =
     let at = c .before .before in
     let yes = passes (at .before .setting-lawful .ensures) (at .if1 .left) in
-    let partitions = at .before .before .load-u82 in
-    let sites = at .before .before .before .load-u8 in
-    let no = fails (c .before .sessions-formed .ensures (partitions .result)) (c .if2 .taken) in
-    rw (← partitions .ensures, ← sites .ensures, yes, no)
+    let same = at .before .before .setting .ensures in
+    let no = fails (c .before .sessions-formed .ensures) (c .if2 .taken) in
+    rw (← same, yes, no)
 
 sites-formed-requires : tie.Need-sites-formed-requires
 sites-formed-requires c κs =
@@ -59,17 +54,15 @@ unfolding wellFormed
 returns-3 c =
     let at = c .before .before .before in
     let yes = passes (at .before .setting-lawful .ensures) (at .if1 .left) in
-    let partitions = at .before .before .load-u82 in
-    let sites = at .before .before .before .load-u8 in
-    let yesSessions = passes (c .before .before .sessions-formed .ensures (partitions .result)) (c .before .if2 .left) in
-    rw (← partitions .ensures, ← sites .ensures, yes, yesSessions, c .sites-formed .ensures)
+    let same = at .before .before .setting .ensures in
+    let yesSessions = passes (c .before .before .sessions-formed .ensures) (c .before .if2 .left) in
+    rw (← same, yes, yesSessions, c .sites-formed .ensures)
 
 pub well-formed-spec : {M : Type 1} → statement M
 well-formed-spec =
     tie.close
     (tie.spec
-    load-u8-requires
-    load-u8-requires-2
+    setting-requires
     setting-lawful-requires
     returns
     sessions-formed-requires

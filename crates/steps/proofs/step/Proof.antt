@@ -19,7 +19,7 @@ code-true c = sym (c .before .code-lawful .ensures) ∙ not-false _ (c .if1 .lef
 
 -- where the fields have been tested: the table is sound, and the test is of the table's own numbers
 abbrev tested : tie.After-fields-lawful → tie.Else1
-tested c = c .before .before .before .before .before
+tested c = c .before .before .before
 
 sound : (c : tie.After-fields-lawful) → Sound (length (tested c .before .before .before .before .args .t .now)) (tested c .before .before .before .before .args .t .now)
 sound c =
@@ -29,7 +29,7 @@ sound c =
 test-is : (c : tie.After-fields-lawful) → c .fields-lawful .result ≡ fieldsTest (tested c .before .before .before .before .args .t .now) (tested c .before .before .before .before .args .e .now)
 test-is c =
     let a = tested c .before .before .before .before .args in
-    c .fields-lawful .ensures ∙ test-by (a .t .now) (a .e .now) _ _ (c .before .before .before .load-u8 .ensures) (c .before .load-u82 .ensures)
+    c .fields-lawful .ensures ∙ test-by (a .t .now) (a .e .now) _ (c .before .setting .ensures)
 
 fields-true : (c : tie.Else2) → fieldsTest (tested (c .before) .before .before .before .before .args .t .now) (tested (c .before) .before .before .before .before .args .e .now) ≡ true
 fields-true c = sym (test-is (c .before)) ∙ not-false _ (c .if2 .left)
@@ -49,15 +49,12 @@ returns c =
     ap (λ r. gives r (a .t .now)) (c .refused .ensures)
     ∙ sym (code-unlawful (a .t .now) (a .e .now) (is-no _ (sym (k .code-lawful .ensures) ∙ not-true _ (c .before .if1 .taken))))
 
-load-u8-requires : tie.Need-load-u8-requires
-load-u8-requires c κs = search needs
-
-load-u8-requires-2 : tie.Need-load-u8-requires-2
-load-u8-requires-2 c κs = search needs
+setting-requires : tie.Need-setting-requires
+setting-requires c κs = search needs
 
 fields-lawful-requires : tie.Need-fields-lawful-requires
 fields-lawful-requires c κs =
-    let s = c .before .before .before .before in
+    let s = c .before .before in
     (s .before .before .before .before .pre .2, code-true s)
 
 refused-requires-2 : tie.Need-refused-requires-2
@@ -111,8 +108,7 @@ step-spec =
     code-lawful-requires
     refused-requires
     returns
-    load-u8-requires
-    load-u8-requires-2
+    setting-requires
     fields-lawful-requires
     refused-requires-2
     same-length

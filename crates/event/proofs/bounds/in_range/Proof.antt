@@ -17,7 +17,7 @@ returns : tie.Need-returns
 unfolding inRange
 returns c =
     let told = c .before .before in
-    let start = told .before .before .before .before .before .before .before .before .before .before .before .before in
+    let start = told .before .before .before .before .before .before .before .before .before .before .before .before .before .before .before in
     let fits : SFits w32 (start .args .x .level) = record { sfits = told .struct-told .given .1 .1 .1 .1 .1 .1 .1 .1 .1 .0 .1 } in
     rw (c .before .level-lawful .ensures, toZ-ofZ fits, c .keys-lawful .ensures)
 

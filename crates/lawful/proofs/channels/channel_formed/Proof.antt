@@ -43,7 +43,7 @@ returns-2 : tie.Need-returns-2
 unfolding channelFormed
 returns-2 c =
     let most = c .before .most .ensures .0 in
-    let many = rw (most, place-there, c .before .before .before .waiting .ensures) at (c .if2 .taken) in
+    let many = rw (most, place-there, c .before .before .before .before .before .before .waiting .ensures) at (c .if2 .taken) in
     rw (lt-leb _ _ many)
 
 load-u8-requires : tie.Need-load-u8-requires
@@ -56,7 +56,7 @@ returns-3 : tie.Need-returns-3
 unfolding channelFormed frontIn
 returns-3 c =
     let at = c .before .before in
-    let wait = at .before .before .before .waiting .ensures in
+    let wait = at .before .before .before .before .before .before .waiting .ensures in
     let few = rw (at .before .most .ensures .0, place-there, wait) at (at .if2 .left) in
     rw (le-leb _ _ few, c .messages-formed .ensures, c .before .load-u8 .ensures, wait)
 

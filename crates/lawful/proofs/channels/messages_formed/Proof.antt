@@ -6,6 +6,7 @@ use native.Mathlib.Omega.{arith}
 use Rattle.codec.specs.Below.{allBelow}
 use Rattle.codec.proofs.Tests.{fails, passes}
 use Rattle.codec.proofs.Below.{allBelow-none, allBelow-more, allBelow-fails}
+use Rattle.protocol.specs.Meaning.{settingOf}
 use Rattle.record.specs.RecordFormed.{messageFormed}
 use Rattle.parts.specs.Channel.{ringAt}
 use Rattle.lawful.proofs.channels.messages_formed.Statement.{statement}
@@ -13,10 +14,10 @@ use Rattle.lawful.proofs.channels.messages_formed.Tie as tie
 use borrow.Author.Needs.{needs}
 
 abbrev Inv-loop : tie.InvT-loop
-Inv-loop b sites partitions i p front wait k₀ k = (k ≤ wait) × (allBelow k (λ j. messageFormed (record { sites = sites; partitions = partitions }) i p b (ringAt front j)) ≡ true)
+Inv-loop b setting i p front wait k₀ k = (k ≤ wait) × (allBelow k (λ j. messageFormed (settingOf setting) i p b (ringAt front j)) ≡ true)
 
 abbrev μ-loop : tie.MeasureT-loop
-μ-loop b sites partitions i p front wait k₀ k = wait - k
+μ-loop b setting i p front wait k₀ k = wait - k
 
 loop-holds : tie.Need-loop-holds Inv-loop μ-loop
 loop-holds c = (omega arith, allBelow-none _)

@@ -17,7 +17,7 @@ most-requires c κs = search needs
 returns : tie.Need-returns
 unfolding nodeFormed
 returns c =
-    let many = rw (c .before .most .ensures .0, c .before .before .held .ensures) at (c .if1 .taken) in
+    let many = rw (c .before .most .ensures .0, c .before .before .before .before .held .ensures) at (c .if1 .taken) in
     rw (lt-leb _ _ many, and-false)
 
 clock-requires : tie.Need-clock-requires
@@ -38,9 +38,7 @@ vector-formed-requires c κs = search needs
 returns-3 : tie.Need-returns-3
 unfolding nodeFormed heardIn
 returns-3 c =
-    let at = c .before .before .before .before .before in
-    let partitions = at .before .before .before .before .args .partitions in
-    let no = fails (c .before .vector-formed .ensures partitions) (c .if3 .taken) in
+    let no = fails (c .before .vector-formed .ensures) (c .if3 .taken) in
     rw (no, and-false)
 
 records-formed-requires : tie.Need-records-formed-requires
@@ -52,10 +50,9 @@ returns-4 c =
     let vec = c .before in
     let time = vec .before .before in
     let at = time .before .before .before in
-    let held = at .before .before .held .ensures in
+    let held = at .before .before .before .before .held .ensures in
     let few = rw (at .before .most .ensures .0, held) at (at .if1 .left) in
-    let partitions = at .before .before .before .before .args .partitions in
-    let yesVec = passes (vec .before .vector-formed .ensures partitions) (vec .if3 .left) in
+    let yesVec = passes (vec .before .vector-formed .ensures) (vec .if3 .left) in
     let yesTime = passes (time .before .time-lawful .ensures) (time .if2 .left) in
     rw (le-leb _ _ few, c .records-formed .ensures, yesVec, ← time .before .before .clock .ensures, yesTime, held)
 

@@ -6,6 +6,7 @@ use native.Mathlib.Omega.{arith}
 use Rattle.codec.specs.Below.{allBelow}
 use Rattle.codec.proofs.Tests.{fails, passes}
 use Rattle.codec.proofs.Below.{allBelow-none, allBelow-more, allBelow-fails}
+use Rattle.protocol.specs.Meaning.{settingOf}
 use Rattle.record.specs.RecordFormed.{recordFormed}
 use Rattle.parts.specs.Node.{slotAt}
 use Rattle.lawful.proofs.nodes.records_formed.Statement.{statement}
@@ -13,10 +14,10 @@ use Rattle.lawful.proofs.nodes.records_formed.Tie as tie
 use borrow.Author.Needs.{needs}
 
 abbrev Inv-loop : tie.InvT-loop
-Inv-loop n sites partitions p held k₀ k = (k ≤ held) × (allBelow k (λ j. recordFormed (record { sites = sites; partitions = partitions }) p n (slotAt j)) ≡ true)
+Inv-loop n setting p held k₀ k = (k ≤ held) × (allBelow k (λ j. recordFormed (settingOf setting) p n (slotAt j)) ≡ true)
 
 abbrev μ-loop : tie.MeasureT-loop
-μ-loop n sites partitions p held k₀ k = held - k
+μ-loop n setting p held k₀ k = held - k
 
 loop-holds : tie.Need-loop-holds Inv-loop μ-loop
 loop-holds c = (omega arith, allBelow-none _)

@@ -11,14 +11,13 @@ load-u8-requires : tie.Need-load-u8-requires
 load-u8-requires c κs = search needs
 
 returns : tie.Need-returns
-returns c = λ partitions. rw (pageLawful-in, lt-leb _ 8 (rw (c .before .load-u8 .ensures) at (c .if1 .taken)))
+returns c = rw (pageLawful-in, lt-leb _ 8 (rw (c .before .load-u8 .ensures) at (c .if1 .taken)))
 
 page-keys-requires : tie.Need-page-keys-requires
 page-keys-requires c κs = search needs
 
 returns-2 : tie.Need-returns-2
 returns-2 c =
-    λ partitions.
     let count = c .before .before .before .load-u8 .ensures in
     let no = rw count at (fails (c .before .page-keys .ensures) (c .if2 .taken)) in
     rw (pageLawful-in, no, and-false)
@@ -28,8 +27,7 @@ vector-formed-requires c κs = search needs
 
 returns-3 : tie.Need-returns-3
 returns-3 c =
-    λ partitions.
-    let no = fails (c .before .vector-formed .ensures partitions) (c .if3 .taken) in
+    let no = fails (c .before .vector-formed .ensures) (c .if3 .taken) in
     rw (pageLawful-in, no, and-false, and-false)
 
 vector-formed-requires-2 : tie.Need-vector-formed-requires-2
@@ -37,14 +35,13 @@ vector-formed-requires-2 c κs = search needs
 
 returns-4 : tie.Need-returns-4
 returns-4 c =
-    λ partitions.
     let keys = c .before .before .before in
     let at = keys .before .before in
     let count = at .before .load-u8 .ensures in
     let few = rw count at (at .if1 .left) in
     let yesKeys = rw count at (passes (keys .before .page-keys .ensures) (keys .if2 .left)) in
-    let yesVec = passes (c .before .before .vector-formed .ensures partitions) (c .before .if3 .left) in
-    rw (pageLawful-in, le-leb _ 8 few, yesKeys, yesVec, c .vector-formed2 .ensures partitions)
+    let yesVec = passes (c .before .before .vector-formed .ensures) (c .before .if3 .left) in
+    rw (pageLawful-in, le-leb _ 8 few, yesKeys, yesVec, c .vector-formed2 .ensures)
 
 pub page-lawful-spec : {M : Type 1} → statement M
 page-lawful-spec =

@@ -14,14 +14,14 @@ load-u8-requires c κs = search needs
 
 returns : tie.Need-returns
 unfolding sessionFormed
-returns c = λ partitions. rw (le-ltb _ 2 (rw (c .before .load-u8 .ensures) at (c .if1 .taken)))
+returns c = rw (le-ltb _ 2 (rw (c .before .load-u8 .ensures) at (c .if1 .taken)))
 
 load-u8-requires-2 : tie.Need-load-u8-requires-2
 load-u8-requires-2 c κs = search needs
 
 returns-2 : tie.Need-returns-2
 unfolding sessionFormed
-returns-2 c = λ partitions. rw (le-ltb _ 2 (rw (c .before .load-u82 .ensures) at (c .if2 .taken)), and-false)
+returns-2 c = rw (le-ltb _ 2 (rw (c .before .load-u82 .ensures) at (c .if2 .taken)), and-false)
 
 site-lawful-requires : tie.Need-site-lawful-requires
 site-lawful-requires c κs = search needs
@@ -29,7 +29,6 @@ site-lawful-requires c κs = search needs
 returns-3 : tie.Need-returns-3
 unfolding sessionFormed sessionLawful sessionIn
 returns-3 c =
-    λ partitions.
     let no = fails (c .before .site-lawful .ensures) (c .if3 .taken) in
     rw (no, and-false)
 
@@ -39,7 +38,6 @@ flags-formed-requires c κs = search needs
 returns-4 : tie.Need-returns-4
 unfolding sessionFormed
 returns-4 c =
-    λ partitions.
     let no = fails (c .before .flags-formed .ensures) (c .if4 .taken) in
     rw (no, and-false, and-false)
 
@@ -49,8 +47,7 @@ vector-formed-requires c κs = search needs
 returns-5 : tie.Need-returns-5
 unfolding sessionFormed sessionLawful sessionIn
 returns-5 c =
-    λ partitions.
-    let no = fails (c .before .vector-formed .ensures partitions) (c .if5 .taken) in
+    let no = fails (c .before .vector-formed .ensures) (c .if5 .taken) in
     rw (no, and-false, and-false)
 
 page-lawful-requires : tie.Need-page-lawful-requires
@@ -59,7 +56,6 @@ page-lawful-requires c κs = search needs
 returns-6 : tie.Need-returns-6
 unfolding sessionFormed sessionLawful sessionIn
 returns-6 c =
-    λ partitions.
     let vec = c .before in
     let marks = vec .before .before in
     let site = marks .before .before in
@@ -69,8 +65,8 @@ returns-6 c =
     let yesPaged = lt-ltb _ 2 (rw (paged .before .load-u82 .ensures) at (paged .if2 .left)) in
     let yesSite = passes (site .before .site-lawful .ensures) (site .if3 .left) in
     let yesMarks = passes (marks .before .flags-formed .ensures) (marks .if4 .left) in
-    let yesVec = passes (vec .before .vector-formed .ensures partitions) (vec .if5 .left) in
-    rw (yesOpen, yesPaged, yesSite, yesMarks, yesVec, c .page-lawful .ensures partitions)
+    let yesVec = passes (vec .before .vector-formed .ensures) (vec .if5 .left) in
+    rw (yesOpen, yesPaged, yesSite, yesMarks, yesVec, c .page-lawful .ensures)
 
 pub session-formed-spec : {M : Type 1} → statement M
 session-formed-spec =

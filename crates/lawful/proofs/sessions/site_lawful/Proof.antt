@@ -16,9 +16,10 @@ load-u8-requires-2 c κs = search needs
 
 returns-2 : tie.Need-returns-2
 returns-2 c =
-    let at = c .before in
+    let site = c .before in
+    let at = site .before in
     let isOpen = sym (at .before .load-u8 .ensures) ∙ at .if1 .left in
-    rw (isOpen, c .load-u82 .ensures)
+    rw (isOpen, site .load-u82 .ensures)
 
 pub site-lawful-spec : {M : Type 1} → statement M
 site-lawful-spec =

@@ -6,6 +6,7 @@ use native.Mathlib.Omega.{arith}
 use Rattle.codec.specs.Below.{allBelow}
 use Rattle.codec.proofs.Tests.{fails, passes}
 use Rattle.codec.proofs.Below.{allBelow-none, allBelow-more, allBelow-fails}
+use Rattle.protocol.specs.Meaning.{settingOf}
 use Rattle.table.specs.Parts.{channelOf}
 use Rattle.lawful.specs.WellFormed.{channelFormed}
 use Rattle.lawful.proofs.sites.channels_formed.Statement.{statement}
@@ -13,11 +14,11 @@ use Rattle.lawful.proofs.sites.channels_formed.Tie as tie
 use borrow.Author.Needs.{needs}
 
 abbrev Inv-loop : tie.InvT-loop
-Inv-loop site sites partitions m p d₀ d =
-    (d ≤ 3) × (allBelow d (λ k. channelFormed (record { sites = sites; partitions = partitions }) m p k (channelOf site p k)) ≡ true)
+Inv-loop site setting m p d₀ d =
+    (d ≤ 3) × (allBelow d (λ k. channelFormed (settingOf setting) m p k (channelOf site p k)) ≡ true)
 
 abbrev μ-loop : tie.MeasureT-loop
-μ-loop site sites partitions m p d₀ d = 3 - d
+μ-loop site setting m p d₀ d = 3 - d
 
 loop-holds : tie.Need-loop-holds Inv-loop μ-loop
 loop-holds c = (omega arith, allBelow-none _)

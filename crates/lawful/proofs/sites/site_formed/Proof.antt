@@ -6,7 +6,7 @@ use native.Mathlib.Omega.{arith}
 use Rattle.codec.specs.Below.{allBelow}
 use Rattle.codec.proofs.Tests.{fails, passes}
 use Rattle.codec.proofs.Below.{allBelow-none, allBelow-more, allBelow-fails}
-use Rattle.protocol.specs.Record.{Setting}
+use Rattle.protocol.specs.Meaning.{settingOf}
 use Rattle.table.specs.Parts.{nodeOf, channelOf}
 use Rattle.lawful.specs.WellFormed.{nodeFormed, channelFormed, siteFormed}
 use Rattle.lawful.proofs.sites.site_formed.Statement.{statement}
@@ -14,12 +14,12 @@ use Rattle.lawful.proofs.sites.site_formed.Tie as tie
 use borrow.Author.Needs.{needs}
 
 abbrev Inv-loop : tie.InvT-loop
-Inv-loop site sites partitions m p₀ p =
-    let c : Setting = record { sites = sites; partitions = partitions } in
+Inv-loop site setting m p₀ p =
+    let c = settingOf setting in
     (p ≤ 4) × (allBelow p (λ k. nodeFormed c m k (nodeOf site k) && allBelow 3 (λ d. channelFormed c m k d (channelOf site k d))) ≡ true)
 
 abbrev μ-loop : tie.MeasureT-loop
-μ-loop site sites partitions m p₀ p = 4 - p
+μ-loop site setting m p₀ p = 4 - p
 
 loop-holds : tie.Need-loop-holds Inv-loop μ-loop
 loop-holds c = (omega arith, allBelow-none _)

@@ -38,15 +38,15 @@ add-load-u64 c = search needs
 load-u64-requires : tie.Need-load-u64-requires
 load-u64-requires c κs = search needs
 
-time-lawful-requires : tie.Need-time-lawful-requires
-time-lawful-requires c κs = search needs
+stamp-lawful-requires : tie.Need-stamp-lawful-requires
+stamp-lawful-requires c κs = search needs
 
 returns-3 : tie.Need-returns-3
 unfolding messageFormed messageAt messageLawful
 returns-3 c =
     let beat = c .before .before in
     let isBeat = sym (beat .before .before .before .load-u8 .ensures) ∙ beat .before .if2 .left in
-    rw (isBeat, beat .heartbeat-formed .ensures, c .time-lawful .ensures, c .before .load-u64 .ensures)
+    rw (isBeat, beat .heartbeat-formed .ensures, c .stamp-lawful .ensures, c .before .load-u64 .ensures)
 
 pub message-formed-spec : {M : Type 1} → statement M
 message-formed-spec =
@@ -60,5 +60,5 @@ message-formed-spec =
     heartbeat-formed-requires
     add-load-u64
     load-u64-requires
-    time-lawful-requires
+    stamp-lawful-requires
     returns-3)

@@ -1,5 +1,4 @@
 -- `record::formed::record_in_range` meets its contract: the test that fails, or the last one where all others were passed.
-use Prim.Native.Nat.{ℕ}
 use mathlib.Core.Path.{sym, ap, _∙_}
 use mathlib.Core.Bool.{Bool}
 use mathlib.Core.List.{List, [], _∷_}
@@ -9,23 +8,21 @@ use mir.Facts.{toZ-ofZ}
 use borrow.Author.Tests.{lt-ltb, le-ltb}
 use borrow.Author.Needs.{needs}
 use Rattle.codec.proofs.Tests.{fails, passes, every-fails, every-last}
-use Rattle.protocol.specs.Record.{Setting, Rec}
+use Rattle.protocol.specs.Record.{Rec}
+use Rattle.protocol.specs.Meaning.{settingOf}
 use Rattle.protocol.specs.Needs.{levelLawful}
 use Rattle.record.specs.RecordBytes.{recordAt}
-use Rattle.record.specs.Ranges.{timeLawful, vecLawful, fieldTests, recordInRange}
+use Rattle.record.specs.Ranges.{stampLawful, vecLawful, fieldTests, recordInRange}
 use Rattle.record.proofs.formed.record_in_range.Statement.{statement}
 use Rattle.record.proofs.formed.record_in_range.Tie as tie
 
 -- ---- the tests, of the record that stands there
 
-abbrev setting : tie.Start → ℕ → Setting
-setting s partitions = record { sites = s .args .sites; partitions = partitions }
-
 abbrev there : tie.Start → Rec
 there s = recordAt (s .args .b .now) (s .args .at)
 
-abbrev tests : tie.Start → ℕ → List Bool
-tests s partitions = fieldTests (setting s partitions) (there s)
+abbrev tests : tie.Start → List Bool
+tests s = fieldTests (settingOf (s .args .setting)) (there s)
 
 -- ---- the needs
 
@@ -34,7 +31,7 @@ load-u8-requires c κs = search needs
 
 returns : tie.Need-returns
 unfolding recordInRange recordAt
-returns c = λ partitions. sym (every-fails (tests (c .before .before .before) partitions) 0 (rw (← c .before .load-u8 .ensures) (le-ltb _ 64 (c .if1 .taken))))
+returns c = sym (every-fails (tests (c .before .before .before)) 0 (rw (← c .before .load-u8 .ensures) (le-ltb _ 64 (c .if1 .taken))))
 
 add-load-u8 : tie.Need-add-load-u8
 add-load-u8 c = search needs
@@ -44,7 +41,7 @@ load-u8-requires-2 c κs = search needs
 
 returns-2 : tie.Need-returns-2
 unfolding recordInRange recordAt
-returns-2 c = λ partitions. sym (every-fails (tests (c .before .before .before .before .before) partitions) 1 (rw (← c .before .load-u82 .ensures) (le-ltb _ _ (c .if2 .taken))))
+returns-2 c = sym (every-fails (tests (c .before .before .before .before .before .before)) 1 (rw (← c .before .before .load-u82 .ensures) (le-ltb _ _ (c .if2 .taken))))
 
 add-load-u8-2 : tie.Need-add-load-u8-2
 add-load-u8-2 c = search needs
@@ -54,7 +51,7 @@ load-u8-requires-3 c κs = search needs
 
 returns-3 : tie.Need-returns-3
 unfolding recordInRange recordAt
-returns-3 c = λ partitions. sym (every-fails (tests (c .before .before .before .before .before .before .before) partitions) 2 (rw (← c .before .load-u83 .ensures) (le-ltb _ 3 (c .if3 .taken))))
+returns-3 c = sym (every-fails (tests (c .before .before .before .before .before .before .before .before)) 2 (rw (← c .before .load-u83 .ensures) (le-ltb _ 3 (c .if3 .taken))))
 
 add-load-level : tie.Need-add-load-level
 add-load-level c = search needs
@@ -70,7 +67,7 @@ unfolding recordInRange recordAt
 returns-4 c =
     let got = c .before .before .load-level in
     let known = ap levelLawful (toZ-ofZ {w = w32} (record { sfits = got .ok }) ∙ got .ensures) in
-    λ partitions. sym (every-fails (tests (c .before .before .before .before .before .before .before .before .before .before) partitions) 3 (sym known ∙ fails (c .before .level-lawful .ensures) (c .if4 .taken)))
+    sym (every-fails (tests (c .before .before .before .before .before .before .before .before .before .before .before)) 3 (sym known ∙ fails (c .before .level-lawful .ensures) (c .if4 .taken)))
 
 add-load-u64 : tie.Need-add-load-u64
 add-load-u64 c = search needs
@@ -78,12 +75,12 @@ add-load-u64 c = search needs
 load-u64-requires : tie.Need-load-u64-requires
 load-u64-requires c κs = search needs
 
-time-lawful-requires : tie.Need-time-lawful-requires
-time-lawful-requires c κs = search needs
+stamp-lawful-requires : tie.Need-stamp-lawful-requires
+stamp-lawful-requires c κs = search needs
 
 returns-5 : tie.Need-returns-5
 unfolding recordInRange recordAt
-returns-5 c = λ partitions. sym (every-fails (tests (c .before .before .before .before .before .before .before .before .before .before .before .before .before) partitions) 4 (rw (← c .before .before .load-u64 .ensures) (fails (c .before .time-lawful .ensures) (c .if5 .taken))))
+returns-5 c = sym (every-fails (tests (c .before .before .before .before .before .before .before .before .before .before .before .before .before .before)) 4 (rw (← c .before .before .load-u64 .ensures) (fails (c .before .stamp-lawful .ensures) (c .if5 .taken))))
 
 add-vector-formed : tie.Need-add-vector-formed
 add-vector-formed c = search needs
@@ -98,22 +95,22 @@ returns-6 c =
     let levelled = timed .before .before .before in
     let graded = levelled .before .before .before in
     let sourced = graded .before .before in
-    let keyed = sourced .before .before in
+    let keyed = sourced .before .before .before in
     let s = keyed .before .before .before in
     let got = levelled .before .before .load-level in
     let known = ap levelLawful (toZ-ofZ {w = w32} (record { sfits = got .ok }) ∙ got .ensures) in
     let r = there s in
-    λ partitions.
-    c .vector-formed .ensures partitions
-    ∙ sym (every-last (ltb (r .id .key) 64 ∷ ltb (r .id .source) (s .args .sites) ∷ ltb (r .quality) 3 ∷ levelLawful (r .level) ∷ timeLawful (r .id .stamp) ∷ []) (vecLawful (setting s partitions) (r .carried)) (
+    let k = settingOf (s .args .setting) in
+    c .vector-formed .ensures
+    ∙ sym (every-last (ltb (r .id .key) 64 ∷ ltb (r .id .source) (k .sites) ∷ ltb (r .quality) 3 ∷ levelLawful (r .level) ∷ stampLawful k (r .id .stamp) ∷ []) (vecLawful k (r .carried)) (
       rw (← keyed .before .load-u8 .ensures) (lt-ltb _ 64 (keyed .if1 .left)),
       (
-        rw (← sourced .before .load-u82 .ensures) (lt-ltb _ _ (sourced .if2 .left)),
+        rw (← sourced .before .before .load-u82 .ensures) (lt-ltb _ _ (sourced .if2 .left)),
         (
           rw (← graded .before .load-u83 .ensures) (lt-ltb _ 3 (graded .if3 .left)),
           (
             sym known ∙ passes (levelled .before .level-lawful .ensures) (levelled .if4 .left),
-            (rw (← timed .before .before .load-u64 .ensures) (passes (timed .before .time-lawful .ensures) (timed .if5 .left)), tt),
+            (rw (← timed .before .before .load-u64 .ensures) (passes (timed .before .stamp-lawful .ensures) (timed .if5 .left)), tt),
           ),
         ),
       ),
@@ -137,7 +134,7 @@ record-in-range-spec =
     returns-4
     add-load-u64
     load-u64-requires
-    time-lawful-requires
+    stamp-lawful-requires
     returns-5
     add-vector-formed
     vector-formed-requires

@@ -5,6 +5,7 @@ use lib.Dec.{eqb}
 use borrow.Author.Tests.{eq-eqb, ne-eqb}
 use borrow.Author.Needs.{needs}
 use Rattle.protocol.specs.Record.{partitionOf}
+use Rattle.protocol.specs.Meaning.{settingOf}
 use Rattle.record.specs.RecordBytes.{recordAt}
 use Rattle.record.specs.Ranges.{recordLawful}
 use Rattle.record.proofs.formed.record_lawful.Statement.{statement}
@@ -27,7 +28,7 @@ record-in-range-requires c κs = search needs
 
 -- the key is of the partition
 of-partition : (k : tie.Else1) → let a = k .before .before .before .before .args in
-    eqb (partitionOf (record { sites = a .sites; partitions = a .partitions }) (recordAt (a .b .now) (a .at) .id .key)) (a .p) ≡ true
+    eqb (partitionOf (settingOf (a .setting)) (recordAt (a .b .now) (a .at) .id .key)) (a .p) ≡ true
 unfolding recordAt
 of-partition k =
     let part = k .before .partition-of in
@@ -35,7 +36,7 @@ of-partition k =
 
 returns-2 : tie.Need-returns-2
 unfolding recordLawful
-returns-2 c = rw (of-partition (c .before)) (c .record-in-range .ensures (c .before .before .before .before .before .args .partitions))
+returns-2 c = rw (of-partition (c .before)) (c .record-in-range .ensures)
 
 pub record-lawful-spec : {M : Type 1} → statement M
 record-lawful-spec =

@@ -7,7 +7,10 @@ use native.Mathlib.Omega.{arith}
 use borrow.Author.Needs.{needs}
 use borrow.Author.Tests.{le-ltb, ne-eqb}
 use lib.Dec.{ltb, eqb}
-use Rattle.record.specs.Ranges.{timeLawful}
+use Rattle.protocol.specs.Record.{Setting}
+use Rattle.protocol.specs.Times.{topOf}
+use Rattle.protocol.specs.Meaning.{settingOf}
+use Rattle.record.specs.Ranges.{stampLawful}
 use Rattle.record.proofs.times.entry_lawful.Statement.{statement}
 use Rattle.record.proofs.times.entry_lawful.Tie as tie
 
@@ -18,10 +21,10 @@ below-one x = go (ℕ-discrete x 0)
     go (yes e) = rw e
     go (no d) = le-ltb x 1 (omega arith) ∙ sym (ne-eqb x 0 d)
 
-below-limit : (there : Bool) (x : ℕ) → ltb x (cond there 281474976710656 1) ≡ cond there (timeLawful x) (eqb x 0)
-unfolding timeLawful
-below-limit true x = refl
-below-limit false x = below-one x
+below-limit : (c : Setting) (there : Bool) (x : ℕ) → ltb x (cond there (topOf c) 1) ≡ cond there (stampLawful c x) (eqb x 0)
+unfolding stampLawful
+below-limit c true x = refl
+below-limit c false x = below-one x
 
 entry-limit-requires : tie.Need-entry-limit-requires
 entry-limit-requires c κs = search needs
@@ -29,7 +32,7 @@ entry-limit-requires c κs = search needs
 returns : tie.Need-returns
 returns c =
     let a = c .before .args in
-    rw (c .entry-limit .ensures) (below-limit (ltb (a .i) (a .sites)) (a .x))
+    rw (c .entry-limit .ensures) (below-limit (settingOf (a .setting)) (ltb (a .i) (a .setting .sites)) (a .x))
 
 pub entry-lawful-spec : {M : Type 1} → statement M
 entry-lawful-spec = tie.close (tie.spec entry-limit-requires returns)

@@ -10,7 +10,7 @@ vector-lawful-requires : tie.Need-vector-lawful-requires
 vector-lawful-requires c κs = search needs
 
 returns : tie.Need-returns
-returns c = λ partitions. rw (c .vector-lawful .ensures partitions, c .before .load-vector .ensures)
+returns c = rw (c .vector-lawful .ensures, c .before .load-vector .ensures)
 
 pub vector-formed-spec : {M : Type 1} → statement M
 vector-formed-spec = tie.close (tie.spec load-vector-requires vector-lawful-requires returns)

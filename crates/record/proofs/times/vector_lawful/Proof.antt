@@ -8,16 +8,17 @@ use Rattle.codec.specs.Below.{allBelow}
 use Rattle.codec.proofs.Tests.{fails, passes}
 use Rattle.codec.proofs.Below.{allBelow-none, allBelow-more, allBelow-fails}
 use Rattle.vector.specs.Entries.{entry}
-use Rattle.record.specs.Ranges.{timeLawful, vecLawful}
+use Rattle.protocol.specs.Meaning.{settingOf}
+use Rattle.record.specs.Ranges.{stampLawful, vecLawful}
 use Rattle.record.proofs.times.vector_lawful.Statement.{statement}
 use Rattle.record.proofs.times.vector_lawful.Tie as tie
 use borrow.Author.Needs.{needs}
 
 abbrev Inv-loop : tie.InvT-loop
-Inv-loop sites e i₀ i = (i ≤ 4) × (allBelow i (λ k. cond (ltb k sites) (timeLawful (entry e k)) (eqb (entry e k) 0)) ≡ true)
+Inv-loop setting e i₀ i = (i ≤ 4) × (allBelow i (λ k. cond (ltb k (setting .sites)) (stampLawful (settingOf setting) (entry e k)) (eqb (entry e k) 0)) ≡ true)
 
 abbrev μ-loop : tie.MeasureT-loop
-μ-loop sites e i₀ i = 4 - i
+μ-loop setting e i₀ i = 4 - i
 
 loop-holds : tie.Need-loop-holds Inv-loop μ-loop
 loop-holds c = (omega arith, allBelow-none _)
@@ -34,7 +35,6 @@ entry-lawful-requires c κs = search needs
 returns : tie.Need-returns Inv-loop μ-loop
 unfolding entry vecLawful
 returns c =
-    λ partitions.
     let l = c .before .before .before in
     let no = fails (c .before .entry-lawful .ensures) (c .if1 .taken) in
     sym (allBelow-fails 4 _ (l .loop .i) (omega arith) no)
@@ -55,7 +55,6 @@ loop-again c =
 returns-2 : tie.Need-returns-2 Inv-loop μ-loop
 unfolding vecLawful
 returns-2 c =
-    λ partitions.
     let l = c .before in
     let e : l .loop .i ≡ 4 = omega arith in
     sym (rw e at (l .loop .inv .1))
