@@ -41,7 +41,7 @@ pub fn in_range(x: Fields, setting: Setting) -> [bool; 10]
         x.quality < 3,
         (x.from < setting.sites) & (x.from != x.site),
         (0 < x.count) & (x.count <= 8),
-        x.time < 281474976710656,
+        x.time < limits::TIMES,
         limits::level_lawful(x.level),
         keys_lawful(keys, x.count),
     ]

@@ -11,30 +11,32 @@ ghost use Rattle.vector.specs.Entries.{entry, loadVec};
 ghost use Rattle.protocol.specs.Times.{topOf};
 ghost use Rattle.protocol.specs.Meaning.{settingOf};
 ghost use Rattle.record.specs.Ranges.{timeLawful, stampLawful, vecLawful};
+use protocol::limits;
 use protocol::limits::Setting;
 use vector::Vector;
-
-// R5: times and stamps are below this.
-const TIMES: u64 = 281474976710656;
 
 pub fn time_lawful(x: u64) -> bool
     ensures { λ r. ⌜ r ≡ timeLawful x ⌝ }
 {
-    x < TIMES
+    x < limits::TIMES
 }
 
 // Every setting has the same limit.
 pub fn stamp_lawful(x: u64, setting: Setting) -> bool
     ensures { λ r. ⌜ r ≡ stampLawful (settingOf setting) x ⌝ }
 {
-    x < TIMES
+    x < limits::TIMES
 }
 
 // How many numbers an entry of site i may be: of an absent site just 0.
 fn entry_limit(i: usize, setting: Setting) -> u64
     ensures { λ r. ⌜ r ≡ cond (ltb i (setting .sites)) (topOf (settingOf setting)) 1 ⌝ }
 {
-    if i < setting.sites as usize { TIMES } else { 1 }
+    if i < setting.sites as usize {
+        limits::TIMES
+    } else {
+        1
+    }
 }
 
 // The entry x of site i. One comparison for both kinds of site, so that eight bytes are loaded as one number.
