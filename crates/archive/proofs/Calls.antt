@@ -11,7 +11,7 @@ use Rattle.codec.specs.Le.{put}
 use Rattle.protocol.specs.declared.Answer.the-variants.{Done}
 use Rattle.table.specs.Put.{fresh}
 use Rattle.table.specs.Parts.{tableLength}
-use Rattle.lawful.specs.Values.{settingLawful}
+use Rattle.lawful.specs.LawfulValues.{settingLawful}
 use Rattle.lawful.specs.WellFormed.{wellFormed}
 use Rattle.lawful.proofs.Steps.{Sound}
 use Rattle.reader.specs.Pieces.{pieceOf}

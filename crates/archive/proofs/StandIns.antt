@@ -24,7 +24,7 @@ use Rattle.event.specs.Fields.{uses, zeroAt, restZero, unusedZero}
 use Rattle.table.specs.Parts.{tableLength}
 use Rattle.table.specs.Decode.{decode}
 use Rattle.table.specs.Put.{fresh}
-use Rattle.lawful.specs.Values.{settingLawful}
+use Rattle.lawful.specs.LawfulValues.{settingLawful}
 use Rattle.lawful.proofs.Steps.{Sound, fresh-sound, fresh-says}
 use Rattle.steps.specs.Step.{Called}
 use Rattle.archive.specs.Call.{stepCall}

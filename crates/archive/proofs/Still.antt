@@ -16,7 +16,7 @@ use Rattle.event.specs.Fields.{unusedZero}
 use Rattle.table.specs.Parts.{tableLength}
 use Rattle.table.specs.Decode.{decode}
 use Rattle.table.specs.Put.{putChanges}
-use Rattle.lawful.specs.Values.{settingLawful}
+use Rattle.lawful.specs.LawfulValues.{settingLawful}
 use Rattle.lawful.specs.WellFormed.{wellFormed}
 use Rattle.steps.specs.Step.{Called, gives, stepOn}
 use Rattle.archive.specs.Call.{stepCall, setupCall}

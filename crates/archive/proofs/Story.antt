@@ -30,7 +30,7 @@ use Rattle.event.specs.Fields.{unusedZero}
 use Rattle.table.specs.Parts.{tableLength}
 use Rattle.table.specs.Decode.{decode}
 use Rattle.table.specs.Put.{putChanges, fresh}
-use Rattle.lawful.specs.Values.{settingLawful}
+use Rattle.lawful.specs.LawfulValues.{settingLawful}
 use Rattle.lawful.specs.WellFormed.{wellFormed}
 use Rattle.lawful.proofs.Facts.{setting-facts}
 use Rattle.lawful.proofs.Steps.{Sound, fresh-sound, fresh-says, step-sound, step-says}

@@ -8,7 +8,7 @@ use Rattle.protocol.specs.Record.{Setting}
 use Rattle.protocol.specs.declared.Answer.the-variants.{Done}
 use Rattle.table.specs.Parts.{tableLength}
 use Rattle.table.specs.Put.{fresh}
-use Rattle.lawful.specs.Values.{settingLawful}
+use Rattle.lawful.specs.LawfulValues.{settingLawful}
 use Rattle.lawful.specs.WellFormed.{wellFormed}
 use Rattle.steps.specs.Step.{Called, gives, need, stepOn}
 

@@ -18,7 +18,7 @@ use Rattle.protocol.specs.Count.{puts, delivers, waiting}
 use Rattle.event.specs.Event.{eventOf}
 use Rattle.table.specs.Parts.{tableLength}
 use Rattle.table.specs.Decode.{decode}
-use Rattle.lawful.specs.Values.{settingLawful}
+use Rattle.lawful.specs.LawfulValues.{settingLawful}
 use Rattle.reader.specs.Pieces.{pieceOf}
 use Rattle.archive.specs.Call.{stepCall, setupCall}
 use Rattle.archive.specs.Run.{piecesOf, runCall}

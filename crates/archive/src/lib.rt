@@ -8,7 +8,7 @@ ghost use Rattle.steps.specs.Run.{ran};
 ghost use Rattle.archive.specs.Call.{setupCall, stepCall};
 ghost use Rattle.archive.specs.Run.{piecesOf, runCall};
 use protocol::Answer;
-use steps::pieces;
+use steps::answers;
 use steps::runs;
 
 pub mod port;
@@ -31,10 +31,10 @@ pub fn setup(table: &mut [u8], sites: u32, partitions: u32) -> Answer
     ensures { λ r. ⌜ gives r (now (table .exit)) ≡ setupCall (now (table .entry)) sites partitions ⌝ }
 {
     if table.len() != TABLE {
-        return pieces::refused(23);
+        return answers::refused(23);
     }
     if !(lawful::number_lawful(sites) & lawful::number_lawful(partitions)) {
-        return pieces::refused(11);
+        return answers::refused(11);
     }
     clear(table);
     codec::store_le(table, 0, 1, sites as u64);
@@ -47,13 +47,13 @@ pub fn step(table: &mut [u8], event: &[u8]) -> Answer
     ensures { λ r. ⌜ gives r (now (table .exit)) ≡ stepCall (now (table .entry)) (now (event .entry)) ⌝ }
 {
     if table.len() != TABLE {
-        return pieces::refused(23);
+        return answers::refused(23);
     }
     if event.len() != 32 {
-        return pieces::refused(23);
+        return answers::refused(23);
     }
     if !lawful::well_formed(table) {
-        return pieces::refused(24);
+        return answers::refused(24);
     }
     steps::step(table, event)
 }

@@ -6,8 +6,9 @@ use native.Mathlib.Omega.{arith}
 use mathlib.Core.Path.{_≡_, refl, ap, ap₂, _∙_, sym, subst}
 use mathlib.Core.List.{List, [], _∷_, _++_, tail, List·Memᴰ, List·Memᴰ·cases-cons, List·Memᴰ·not-nil}
 use mathlib.Core.Logic.{_⊎_, inl, inr}
-use lib.ListN.{length, getD}
-use lib.Seq.{ext-getD}
+use lib.ListN.{length, getD, set}
+use lib.Seq.{ext-getD, getD-set-same, getD-set-other}
+use borrow.Author.Count.{below-more}
 use Rattle.codec.specs.Tabulate.{tabulate}
 
 module _ {ℓ} {A : Type ℓ} where
@@ -62,3 +63,8 @@ tab-each P (suc n) f h a m = go (tab-each P n (λ i. f (suc i)) (λ i l. h (suc 
     go : (List·Memᴰ a (tabulate n (λ i. f (suc i))) → P a) → (a ≡ f 0) ⊎ (List·Memᴰ a (tabulate n (λ i. f (suc i)))) → P a
     go r (inl e) = subst P (sym e) (h 0 (omega arith))
     go r (inr k) = r k
+
+-- one element more of an array that is filled from the front
+pub filled-more : {A : Type 0} (f : ℕ → A) (e : List A) (i : ℕ) (x d : A) → i < length e → ((k : ℕ) → k < i → getD e k d ≡ f k) → x ≡ f i → (k : ℕ) → k < i + 1 → getD (set e i x) k d ≡ f k
+filled-more f e i x d l h q =
+    below-more (λ k. getD (set e i x) k d ≡ f k) i (λ k b. getD-set-other e i k x d (omega arith) ∙ h k b) (getD-set-same e i x d l ∙ q)

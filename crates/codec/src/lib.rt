@@ -4,6 +4,7 @@ ghost use mathlib.Core.Path.{_≡_};
 ghost use Prim.Native.Nat.{_+_, _≤_, _<_};
 ghost use lib.ListN.{length};
 ghost use Rattle.codec.specs.Le.{load, put};
+ghost use Rattle.codec.specs.Tabulate.{tabulate};
 ghost use Rattle.codec.specs.Level.{levelFrom, bitsOf};
 
 // The byte as a wider number, which is still below 256.
@@ -53,6 +54,20 @@ pub fn store_u8(t: &mut [u8], at: usize, x: u8)
     ensures { λ _. ⌜ now (t .exit) ≡ put 1 (now (t .entry)) at x ⌝ }
 {
     t[at] = x;
+}
+
+// The eight bytes from `at`, each a number.
+pub fn load_eight(t: &[u8], at: usize) -> [u8; 8]
+    requires { ⌜ at + 8 ≤ length (now t) ⌝ }
+    ensures { λ r. ⌜ r ≡ tabulate 8 (λ i. load 1 (now (t .entry)) (at + i)) ⌝ }
+{
+    let mut bytes = [0u8; 8];
+    let mut i = 0;
+    while i < 8 {
+        bytes[i] = load_u8(t, at + i);
+        i += 1;
+    }
+    bytes
 }
 
 pub fn load_u32(t: &[u8], at: usize) -> u32

@@ -23,7 +23,7 @@ use Rattle.parts.specs.Node.{slotAt, heldIn}
 use Rattle.parts.specs.Session.{markAt, sessionIn}
 use Rattle.table.specs.Parts.{sessionOf, siteOf, nodeOf}
 use Rattle.table.specs.Decode.{settingIn}
-use Rattle.lawful.specs.Values.{keysOf, pageLawful, sessionLawful}
+use Rattle.lawful.specs.LawfulValues.{keysOf, pageLawful, sessionLawful}
 use Rattle.lawful.specs.WellFormed.{wellFormed}
 use Rattle.lawful.proofs.Facts.{formed}
 

@@ -22,7 +22,7 @@ use Rattle.parts.specs.Node.{heldIn}
 use Rattle.parts.specs.Session.{sessionIn}
 use Rattle.table.specs.Parts.{sessionOf, siteOf, nodeOf}
 use Rattle.table.specs.Decode.{settingIn, decode}
-use Rattle.lawful.specs.Values.{pageLawful, sessionLawful}
+use Rattle.lawful.specs.LawfulValues.{pageLawful, sessionLawful}
 use Rattle.lawful.specs.WellFormed.{wellFormed}
 use Rattle.lawful.proofs.Facts.{formed}
 use Rattle.decision.specs.Answered.{answered}

@@ -1,4 +1,4 @@
 -- The laws of an event's bytes.
 pub mod Keys
 pub mod Ranges
-pub mod Values
+pub mod Meaning

@@ -17,7 +17,7 @@ use Rattle.protocol.specs.Record.{Setting}
 use Rattle.protocol.specs.Needs.{ranges}
 use Rattle.event.specs.Fields.{uses, zeroAt, startOf, sizeOf, restZero, unusedZero}
 use Rattle.event.specs.Event.{codeLawful, timeOf, levelIn, eventOf, met}
-use Rattle.event.specs.Values.{fieldsIn}
+use Rattle.event.specs.Meaning.{fieldsIn}
 use Rattle.event.specs.Ranges.{inRange, usedBy, zeroIn, fieldLawful, fieldsLawful}
 use Rattle.event.proofs.Keys.{length-keysOf, count-keys}
 

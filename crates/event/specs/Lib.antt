@@ -2,5 +2,5 @@
 pub mod Fields
 pub mod Event
 -- ---- below the line: words of contracts inside and of proofs; nobody has to believe them
-pub mod Values
+pub mod Meaning
 pub mod Ranges

@@ -13,7 +13,7 @@ use Rattle.protocol.specs.Times.{timeLimit}
 use Rattle.protocol.specs.Needs.{levelLawful}
 use Rattle.event.specs.declared.Fields.{Fields}
 use Rattle.event.specs.Fields.{uses, startOf, sizeOf, zeroAt, restZero}
-use Rattle.event.specs.Values.{fieldsIn}
+use Rattle.event.specs.Meaning.{fieldsIn}
 
 -- of the eight keys those below the count are 0 to 63
 unfoldable pub keysBelow : List ℕ → ℕ → Bool

@@ -4,14 +4,12 @@ ghost use mathlib.Core.Path.{_≡_};
 ghost use mathlib.Core.Bool.{true, _&&_};
 ghost use Prim.Native.Nat.{_+_, _<_, _-_};
 ghost use lib.ListN.{length};
-ghost use Rattle.codec.specs.Le.{load};
 ghost use Rattle.codec.specs.Below.{allBelow};
-ghost use Rattle.codec.specs.Tabulate.{tabulate};
 ghost use Rattle.protocol.specs.Needs.{ranges};
 ghost use Rattle.protocol.specs.Meaning.{settingOf};
 ghost use Rattle.event.specs.Fields.{unusedZero};
 ghost use Rattle.event.specs.Event.{codeLawful, eventOf, met};
-ghost use Rattle.event.specs.Values.{fieldsIn};
+ghost use Rattle.event.specs.Meaning.{fieldsIn};
 ghost use Rattle.event.specs.Ranges.{fieldLawful};
 use protocol::limits::Setting;
 
@@ -33,20 +31,6 @@ pub struct Fields {
     pub keys: [u8; 8],
 }
 
-// All eight bytes of the page keys.
-fn load_keys(e: &[u8]) -> [u8; 8]
-    requires { ⌜ length (now e) ≡ 32 ⌝ }
-    ensures { λ r. ⌜ r ≡ tabulate 8 (λ i. load 1 (now (e .entry)) (20 + i)) ⌝ }
-{
-    let mut keys = [0u8; 8];
-    let mut i = 0;
-    while i < 8 {
-        keys[i] = codec::load_u8(e, 20 + i);
-        i += 1;
-    }
-    keys
-}
-
 pub fn load_fields(e: &[u8]) -> Fields
     requires { ⌜ length (now e) ≡ 32 ⌝ }
     ensures { λ r. ⌜ r ≡ fieldsIn (now (e .entry)) ⌝ }
@@ -62,7 +46,7 @@ pub fn load_fields(e: &[u8]) -> Fields
         count: codec::load_u8(e, 7),
         time: codec::load_u64(e, 8),
         level: codec::load_level(e, 16),
-        keys: load_keys(e),
+        keys: codec::load_eight(e, 20),
     }
 }
 

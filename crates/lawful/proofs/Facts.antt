@@ -36,9 +36,9 @@ use Rattle.table.specs.Parts.{placeOf, sessionOf, siteOf, nodeOf, channelOf}
 use Rattle.table.specs.Decode.{settingIn, decode}
 use Rattle.table.proofs.Parts.{every-session}
 use Rattle.table.proofs.Changes.{place-lt}
-use Rattle.lawful.specs.Values.{settingLawful, sessionLawful}
+use Rattle.lawful.specs.LawfulValues.{settingLawful, sessionLawful}
 use Rattle.lawful.specs.WellFormed.{flagsAt, sessionFormed, nodeFormed, channelFormed, siteFormed, wellFormed}
-use Rattle.lawful.proofs.Values.{page-facts, LawfulSession, session-facts, LawfulState}
+use Rattle.lawful.proofs.LawfulValues.{page-facts, LawfulSession, session-facts, LawfulState}
 
 -- ---- a session
 

@@ -27,7 +27,7 @@ use Rattle.table.proofs.Parts.{long-still}
 use Rattle.table.proofs.Bytes.{bytes-putChange}
 use Rattle.table.proofs.Decode.{length-putChange, setting-put, decode-put}
 use Rattle.lawful.specs.WellFormed.{wellFormed}
-use Rattle.lawful.proofs.Values.{session-fits}
+use Rattle.lawful.proofs.LawfulValues.{session-fits}
 use Rattle.lawful.proofs.Facts.{formed, store-length, says-lawful}
 use Rattle.lawful.proofs.Served.{RoomIn, Lawful, LawfulAll, step-lawful}
 

@@ -22,9 +22,9 @@ use Rattle.table.specs.Decode.{settingIn, decode}
 use Rattle.table.specs.Put.{fresh}
 use Rattle.table.proofs.Parts.{every-session}
 use Rattle.table.proofs.Fresh.{decode-fresh}
-use Rattle.lawful.specs.Values.{settingLawful, sessionLawful}
+use Rattle.lawful.specs.LawfulValues.{settingLawful, sessionLawful}
 use Rattle.lawful.specs.WellFormed.{wellFormed}
-use Rattle.lawful.proofs.Values.{session-lawful}
+use Rattle.lawful.proofs.LawfulValues.{session-lawful}
 use Rattle.lawful.proofs.Facts.{NodeFacts, ChannelFacts, setting-facts, well-formed, store-length}
 use Rattle.lawful.proofs.Served.{closed-lawful}
 use Rattle.lawful.proofs.Fits.{other-at, chan-length}

@@ -19,7 +19,7 @@ use Rattle.protocol.specs.State.{Mark}
 use Rattle.protocol.specs.Needs.{keysLawful, holdsKey, distinct}
 use Rattle.record.specs.Ranges.{vecLawful}
 use Rattle.parts.specs.Session.{markAt, sessionIn}
-use Rattle.lawful.specs.Values.{keysOf, pageLawful}
+use Rattle.lawful.specs.LawfulValues.{keysOf, pageLawful}
 
 -- ---- a list
 

@@ -29,8 +29,8 @@ use Rattle.protocol.proofs.Times.{time-below-top}
 use Rattle.protocol.proofs.Judge.{Met, step-elim}
 use Rattle.protocol.proofs.Order.{NewestOf, newest-is}
 use Rattle.record.proofs.Ranges.{LawfulVec, zeros-lawful, larger-lawful, with-entry-lawful, raised-lawful, LawfulRec, LawfulMsg}
-use Rattle.lawful.specs.Values.{keysOf}
-use Rattle.lawful.proofs.Values.{LawfulPage, marks-fit, LawfulSession, LawfulState}
+use Rattle.lawful.specs.LawfulValues.{keysOf}
+use Rattle.lawful.proofs.LawfulValues.{LawfulPage, marks-fit, LawfulSession, LawfulState}
 
 -- ---- lawful changes of a state
 

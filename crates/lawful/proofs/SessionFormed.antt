@@ -17,8 +17,8 @@ use Rattle.protocol.specs.Record.{Setting}
 use Rattle.protocol.specs.State.{Mark, Session}
 use Rattle.parts.specs.Session.{flag, putMarks, putSession}
 use Rattle.parts.proofs.SessionBytes.{session-putSession}
-use Rattle.lawful.specs.Values.{sessionLawful}
-use Rattle.lawful.proofs.Values.{LawfulSession, session-lawful, session-fits}
+use Rattle.lawful.specs.LawfulValues.{sessionLawful}
+use Rattle.lawful.proofs.LawfulValues.{LawfulSession, session-lawful, session-fits}
 use Rattle.lawful.proofs.Facts.{SessionFacts}
 
 record Flags (b : List ℕ) : Type 0 where

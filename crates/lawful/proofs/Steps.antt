@@ -17,7 +17,7 @@ use Rattle.table.proofs.Parts.{long-still}
 use Rattle.table.proofs.Bytes.{bytes-putChanges}
 use Rattle.table.proofs.Decode.{length-putChanges, decode-puts}
 use Rattle.table.proofs.Fresh.{length-fresh, decode-fresh, bytes-fresh}
-use Rattle.lawful.specs.Values.{settingLawful}
+use Rattle.lawful.specs.LawfulValues.{settingLawful}
 use Rattle.lawful.specs.WellFormed.{wellFormed}
 use Rattle.lawful.proofs.Facts.{setting-facts}
 use Rattle.lawful.proofs.Fits.{step-fits}

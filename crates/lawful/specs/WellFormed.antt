@@ -14,7 +14,7 @@ use Rattle.parts.specs.Channel.{ringAt, frontIn, waitIn}
 use Rattle.parts.specs.Session.{sessionIn}
 use Rattle.table.specs.Parts.{sessionOf, siteOf, nodeOf, channelOf}
 use Rattle.table.specs.Decode.{settingIn}
-use Rattle.lawful.specs.Values.{settingLawful, sessionLawful}
+use Rattle.lawful.specs.LawfulValues.{settingLawful, sessionLawful}
 
 -- R21: flags and marks are 0 or 1
 unfoldable pub flagsAt : List ℕ → (at n : ℕ) → Bool

@@ -7,7 +7,7 @@ ghost use lib.Dec.{leb, ltb};
 ghost use Rattle.codec.specs.Below.{allBelow};
 ghost use Rattle.protocol.specs.Meaning.{settingOf};
 ghost use Rattle.table.specs.Parts.{Long, sessionOf, siteOf};
-ghost use Rattle.lawful.specs.Values.{settingLawful};
+ghost use Rattle.lawful.specs.LawfulValues.{settingLawful};
 ghost use Rattle.lawful.specs.WellFormed.{sessionFormed, siteFormed, wellFormed};
 use protocol::limits::Setting;
 use table::places;

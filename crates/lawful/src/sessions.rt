@@ -7,7 +7,7 @@ ghost use lib.ListN.{length};
 ghost use Rattle.codec.specs.Le.{load};
 ghost use Rattle.protocol.specs.Meaning.{settingOf};
 ghost use Rattle.parts.specs.Session.{sessionIn};
-ghost use Rattle.lawful.specs.Values.{pageLawful};
+ghost use Rattle.lawful.specs.LawfulValues.{pageLawful};
 ghost use Rattle.lawful.specs.WellFormed.{flagsAt, sessionFormed};
 use crate::pages;
 use protocol::limits::Setting;

@@ -1,16 +1,14 @@
 -- The keys and marks of a page, in two arrays. In order: an array that is filled from the front; the marks put one
 -- after the other, as the code counts; the marks that are loaded.
-use mathlib.Core.Bool.{Bool, false}
-use mathlib.Core.Path.{_≡_, refl, ap, _∙_}
-use mathlib.Core.List.{List}
-use Prim.Native.Nat.{ℕ, zero, suc, _+_, _-_, _≤_, _<_}
+use Prim.Native.Nat.{ℕ, suc, _+_, _-_, _≤_, _<_}
 use native.Mathlib.Nat.{add-zero}
 use native.Mathlib.Numerals.{add-one}
 use native.Mathlib.Omega.{arith}
-use borrow.Author.Count.{below-more}
+use mathlib.Core.Bool.{Bool, false}
+use mathlib.Core.Path.{_≡_, ap}
+use mathlib.Core.List.{List}
 use lib.Dec.{eqb}
-use lib.ListN.{length, getD, set}
-use lib.Seq.{getD-set-same, getD-set-other}
+use lib.ListN.{getD}
 use Rattle.codec.specs.Le.{load, put}
 use Rattle.codec.specs.Tabulate.{tabulate}
 use Rattle.codec.proofs.Tabulate.{tab-ext}
@@ -20,10 +18,6 @@ use Rattle.parts.specs.Session.{flag, markAt, putMarks}
 -- what the two arrays say of mark i
 abbrev pub markOf : List ℕ → List Bool → ℕ → Mark
 markOf keys marks i = record { key = getD keys i 0; read = getD marks i false }
-
-pub filled-more : {A : Type 0} (f : ℕ → A) (e : List A) (i : ℕ) (x d : A) → i < length e → ((k : ℕ) → k < i → getD e k d ≡ f k) → x ≡ f i → (k : ℕ) → k < i + 1 → getD (set e i x) k d ≡ f k
-filled-more f e i x d l h q =
-    below-more (λ k. getD (set e i x) k d ≡ f k) i (λ k b. getD-set-other e i k x d (omega arith) ∙ h k b) (getD-set-same e i x d l ∙ q)
 
 -- those from i to n
 abbrev pub fromTo {ℓ} : {A : Type ℓ} → ℕ → ℕ → (ℕ → A) → List A

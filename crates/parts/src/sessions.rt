@@ -10,19 +10,6 @@ ghost use Rattle.parts.specs.Session.{sessionIn, flag, putMarks, putSess
 ghost use Rattle.parts.specs.Meaning.{asSession};
 use crate::Session;
 
-fn load_keys(b: &[u8]) -> [u8; 8]
-    requires { ⌜ length (now b) ≡ 128 ⌝ }
-    ensures { λ r. ⌜ ((i : ℕ) → i < 8 → getD r i 0 ≡ load 1 (now (b .entry)) (8 + i)) ⌝ }
-{
-    let mut keys = [0u8; 8];
-    let mut i = 0;
-    while i < 8 {
-        keys[i] = codec::load_u8(b, 8 + i);
-        i += 1;
-    }
-    keys
-}
-
 fn load_marks(b: &[u8]) -> [bool; 8]
     requires { ⌜ length (now b) ≡ 128 ⌝ }
     ensures { λ r. ⌜ ((i : ℕ) → i < 8 → getD r i false ≡ eqb (load 1 (now (b .entry)) (16 + i)) 1) ⌝ }
@@ -44,7 +31,7 @@ pub fn load(b: &[u8]) -> Session
     let site = codec::load_u8(b, 1);
     let paged = codec::load_u8(b, 2) == 1;
     let count = codec::load_u8(b, 3);
-    let keys = load_keys(b);
+    let keys = codec::load_eight(b, 8);
     let marks = load_marks(b);
     let vec = vector::load_vector(b, 32);
     let page = vector::load_vector(b, 64);

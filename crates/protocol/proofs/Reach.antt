@@ -16,7 +16,7 @@ use Rattle.protocol.specs.Needs.{ranges, beatSends, needs}
 use Rattle.protocol.specs.Change.{Change, SetSession, SetClock, Publish, Receive}
 use Rattle.protocol.specs.Serve.{Outcome, taken, serve}
 use Rattle.protocol.specs.Step.{step}
-use Rattle.protocol.specs.Promises.{IsPart}
+use Rattle.protocol.specs.Promises.{IsPartition}
 use Rattle.protocol.proofs.Judge.{Met, step-elim}
 
 -- m is the site of an open session, or the one that is named
@@ -37,7 +37,7 @@ pub record Takes (S : State) (w : Place) (i m p : ℕ) (x : Msg) : Type 0 where
 abbrev pub Reaches : State → Place → Change → Type 0
 Reaches S w (SetSession s x) = Unit {0}
 Reaches S w (SetClock m p t) = Unit {0}
-Reaches S w (Publish m p x) = SiteOf S w m × IsPart (S .net .setting) p
+Reaches S w (Publish m p x) = SiteOf S w m × IsPartition (S .net .setting) p
 Reaches S w (Receive i m p x) = Takes S w i m p x
 
 -- sessions and clocks are set, and nothing else
@@ -52,7 +52,7 @@ abbrev pub FirstReaches : State → Place → List Change → Type 0
 FirstReaches S w [] = Unit {0}
 FirstReaches S w (c ∷ cs) = Reaches S w c × Quiet cs
 
-pub part-is : (c : Setting) (k : ℕ) → IsPart c (partitionOf c k)
+pub part-is : (c : Setting) (k : ℕ) → IsPartition c (partitionOf c k)
 part-is c k h = mod-lt k h
 
 module _ (S : State) where

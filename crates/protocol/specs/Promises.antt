@@ -29,16 +29,16 @@ Conserved = (c : Setting) (es : List Event) (i m p : ℕ) → i ≢ m → m < c 
     count (puts i p) (setup c) es ≡ count (delivers i m p) (setup c) es + waiting (after (setup c) es .net .chan i m p)
 
 -- INFLUENCE. p is one of the partitions. Every setup has one at least; were there none, a key k would be at k mod 0, which is k, and any number would do
-abbrev pub IsPart : Setting → ℕ → Type 0
-IsPart c p = 0 < c .partitions → p < c .partitions
+abbrev pub IsPartition : Setting → ℕ → Type 0
+IsPartition c p = 0 < c .partitions → p < c .partitions
 
 -- two networks are alike in the constants, the nodes of site m, and how full their channels to the sites are
 pub record SiteAlike (N M : Net) (m : ℕ) : Type 0 where
   pub setting : N .setting ≡ M .setting
-  pub clock : (p : ℕ) → IsPart (N .setting) p → N .clock m p ≡ M .clock m p
-  pub heard : (p i : ℕ) → IsPart (N .setting) p → N .heard m p i ≡ M .heard m p i
-  pub store : (p : ℕ) → IsPart (N .setting) p → N .store m p ≡ M .store m p
-  pub sent : (p j : ℕ) → IsPart (N .setting) p → j < N .setting .sites → length (N .chan m j p) ≡ length (M .chan m j p)
+  pub clock : (p : ℕ) → IsPartition (N .setting) p → N .clock m p ≡ M .clock m p
+  pub heard : (p i : ℕ) → IsPartition (N .setting) p → N .heard m p i ≡ M .heard m p i
+  pub store : (p : ℕ) → IsPartition (N .setting) p → N .store m p ≡ M .store m p
+  pub sent : (p j : ℕ) → IsPartition (N .setting) p → j < N .setting .sites → length (N .chan m j p) ≡ length (M .chan m j p)
 
 -- an event of a session that is not open sees the session and the constants alone
 unfoldable pub Alike : State → State → Place → Type 0

@@ -1,5 +1,5 @@
 // The rules of docs/RULES.md without bytes: the definitions are in specs/, what is proved of them in proofs/. The code here is the answer, the very
-// type that the definitions use, and the values that it stands for; `limits` has two of the limits. It touches nothing.
+// type that the definitions use, and the values that it stands for; `limits` has the constants that setup fixes, and limits. It touches nothing.
 ghost use mathlib.Core.Path.{_≡_};
 ghost use Rattle.protocol.specs.Event.{five, valuesOf};
 

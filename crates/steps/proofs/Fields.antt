@@ -11,10 +11,10 @@ use Rattle.codec.proofs.Tests.{yes-eqb}
 use Rattle.event.specs.declared.Fields.{Fields}
 use Rattle.event.specs.Fields.{site, partition, session, from, count, uses}
 use Rattle.event.specs.Ranges.{inRange}
-use Rattle.event.specs.Values.{fieldsIn, eventFor}
+use Rattle.event.specs.Meaning.{fieldsIn, eventFor}
 use Rattle.event.specs.Event.{eventOf}
 use Rattle.event.proofs.Ranges.{code-row}
-use Rattle.event.proofs.Values.{Lawful, event-is, used-in-range}
+use Rattle.event.proofs.Meaning.{Lawful, event-is, used-in-range}
 use Rattle.table.specs.Decode.{settingIn}
 
 -- the code is 1 to 10

@@ -17,8 +17,8 @@ use decision::writes;
 use outcome::Decided;
 use protocol::Answer;
 
+pub mod answers;
 pub mod effects;
-pub mod pieces;
 pub mod runs;
 
 // What the protocol decides of an event whose code and fields are lawful.
@@ -55,11 +55,11 @@ pub fn step(t: &mut [u8], e: &[u8]) -> Answer
     ensures { λ r. ⌜ gives r (now (t .exit)) ≡ stepOn (now (t .entry)) (now (e .entry)) ⌝ }
 {
     if !event::code_lawful(e) {
-        return pieces::refused(10);
+        return answers::refused(10);
     }
     let setting = table::setting(t);
     if !event::fields_lawful(e, setting) {
-        return pieces::refused(11);
+        return answers::refused(11);
     }
     let d = decide(t, e);
     effects::carry_out(t, d);

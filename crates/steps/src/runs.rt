@@ -10,7 +10,7 @@ ghost use Rattle.table.specs.Parts.{Long};
 ghost use Rattle.lawful.specs.WellFormed.{wellFormed};
 ghost use Rattle.steps.specs.Step.{gives};
 ghost use Rattle.steps.specs.Run.{ran, pieceAnswered, runBy, pieceCall, pieceRefused};
-use crate::pieces;
+use crate::answers;
 use protocol::Answer;
 
 // A piece of the event bytes: all but the last have 32 bytes.
@@ -21,7 +21,7 @@ fn piece(t: &mut [u8], e: &[u8]) -> Answer
     if e.len() == 32 {
         crate::step(t, e)
     } else {
-        pieces::refused(23)
+        answers::refused(23)
     }
 }
 
@@ -31,7 +31,7 @@ fn answer_piece(t: &mut [u8], es: &[u8], b: &mut [u8], i: usize)
     ensures { λ _. ⌜ ran (now (t .exit)) (now (b .exit)) ≡ pieceAnswered pieceCall i (now (t .entry)) (now (es .entry)) (now (b .entry)) ⌝ }
 {
     let a = piece(t, reader::event_of(es, i));
-    pieces::store_answer(b, 16 * i, a);
+    answers::store_answer(b, 16 * i, a);
 }
 
 // The first n pieces.
@@ -59,8 +59,8 @@ fn refuse_piece(es: &[u8], b: &mut [u8], i: usize, number: u8)
     ensures { λ _. ⌜ ((t : List ℕ) → ran t (now (b .exit)) ≡ pieceAnswered (pieceRefused number) i t (now (es .entry)) (now (b .entry))) ⌝ }
 {
     let e = reader::event_of(es, i);
-    let a = pieces::refused(number_for(e.len(), number));
-    pieces::store_answer(b, 16 * i, a);
+    let a = answers::refused(number_for(e.len(), number));
+    answers::store_answer(b, 16 * i, a);
 }
 
 // The first n pieces of a table that is refused with the number.

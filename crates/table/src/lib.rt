@@ -1,6 +1,6 @@
-// The table's bytes: where each thing stands, what it says and what changes it. Each thing has a file of its own, and works on that thing's bytes
-// alone. Here are the values that go in and out, and the protocol's four changes on the whole table, each of which lends the part that it is about:
-// a session's, or a site's, which starts in the table's middle.
+// The whole table's bytes. `places` says where each part stands, and lends it for reading; `sites` has the changes of a site's part. Here are the setup's
+// constants as they are read, and the protocol's four changes, each of which lends the part that it changes: a session's, or a site's, which starts in the
+// table's middle.
 ghost use mathlib.Core.Path.{_≡_};
 ghost use Prim.Native.Nat.{_-_, _≤_, _<_};
 ghost use lib.ListN.{length};

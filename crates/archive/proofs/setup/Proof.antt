@@ -4,7 +4,7 @@ use mathlib.Core.Bool.{_&&_}
 use borrow.Author.Needs.{needs}
 use Rattle.codec.proofs.Tests.{fails, passes}
 use Rattle.protocol.specs.declared.Answer.the-variants.{Done}
-use Rattle.lawful.specs.Values.{settingLawful}
+use Rattle.lawful.specs.LawfulValues.{settingLawful}
 use Rattle.steps.specs.Step.{gives}
 use Rattle.archive.proofs.Calls.{setup-23, setup-11, setup-done}
 use Rattle.archive.proofs.setup.Statement.{statement}

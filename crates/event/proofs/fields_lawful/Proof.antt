@@ -1,6 +1,6 @@
 -- `event::fields_lawful` meets its contract: it tests field by field, which is what the protocol asks.
 use Rattle.event.specs.Fields.{zeroAt}
-use Rattle.event.specs.Values.{fieldsIn}
+use Rattle.event.specs.Meaning.{fieldsIn}
 use Rattle.event.specs.Ranges.{fieldsLawful}
 use Rattle.event.proofs.Ranges.{code-row, fields-lawful}
 use Rattle.event.proofs.fields_lawful.Statement.{statement}

@@ -1,7 +1,7 @@
 -- `event::load_fields` meets its contract, by what each load ensures.
 use mir.Facts.{toZ-ofZ}
 use Rattle.event.specs.Event.{timeOf, levelIn}
-use Rattle.event.specs.Values.{fieldsIn}
+use Rattle.event.specs.Meaning.{fieldsIn}
 use Rattle.event.proofs.load_fields.Statement.{statement}
 use Rattle.event.proofs.load_fields.Tie as tie
 use borrow.Author.Needs.{needs}
@@ -36,8 +36,8 @@ load-u64-requires c κs = search needs
 load-level-requires : tie.Need-load-level-requires
 load-level-requires c κs = search needs
 
-load-keys-requires : tie.Need-load-keys-requires
-load-keys-requires c κs = search needs
+load-eight-requires : tie.Need-load-eight-requires
+load-eight-requires c κs = search needs
 
 returns : tie.Need-returns
 unfolding fieldsIn timeOf levelIn
@@ -47,7 +47,7 @@ returns c =
     let key = count .before .before .before in
     let site = key .before .before .before in
     rw
-    (toZ-ofZ (record { sfits = level .load-level .ok }), site .before .load-u8 .ensures, site .load-u82 .ensures, key .before .before .load-u83 .ensures, key .before .load-u84 .ensures, key .load-u85 .ensures, count .before .before .load-u86 .ensures, count .before .load-u87 .ensures, count .load-u88 .ensures, level .before .load-u64 .ensures, level .load-level .ensures, c .load-keys .ensures)
+    (toZ-ofZ (record { sfits = level .load-level .ok }), site .before .load-u8 .ensures, site .load-u82 .ensures, key .before .before .load-u83 .ensures, key .before .load-u84 .ensures, key .load-u85 .ensures, count .before .before .load-u86 .ensures, count .before .load-u87 .ensures, count .load-u88 .ensures, level .before .load-u64 .ensures, level .load-level .ensures, c .load-eight .ensures)
 
 pub load-fields-spec : {M : Type 1} → statement M
 load-fields-spec =
@@ -63,5 +63,5 @@ load-fields-spec =
     load-u8-requires-8
     load-u64-requires
     load-level-requires
-    load-keys-requires
+    load-eight-requires
     returns)

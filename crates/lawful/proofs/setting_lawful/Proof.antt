@@ -1,6 +1,6 @@
 -- `lawful::setting_lawful` meets its contract: both numbers are lawful.
 use borrow.Author.Needs.{needs}
-use Rattle.lawful.specs.Values.{settingLawful}
+use Rattle.lawful.specs.LawfulValues.{settingLawful}
 use Rattle.lawful.proofs.setting_lawful.Statement.{statement}
 use Rattle.lawful.proofs.setting_lawful.Tie as tie
 

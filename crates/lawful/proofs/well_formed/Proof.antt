@@ -6,7 +6,7 @@ use lib.Dec.{T, leb, ltb}
 use mir.Facts.{and-yes, ltb-yes}
 use Rattle.codec.proofs.Tests.{fails, passes}
 use Rattle.protocol.specs.Record.{Setting}
-use Rattle.lawful.specs.Values.{settingLawful}
+use Rattle.lawful.specs.LawfulValues.{settingLawful}
 use Rattle.lawful.specs.WellFormed.{wellFormed}
 use Rattle.lawful.proofs.well_formed.Statement.{statement}
 use Rattle.lawful.proofs.well_formed.Tie as tie

@@ -8,9 +8,9 @@ use mir.Facts.{toZ-ofZ}
 use Rattle.codec.specs.Le.{load}
 use Rattle.protocol.specs.Event.{PUT}
 use Rattle.event.specs.Fields.{site, partition, session, from, count, uses}
-use Rattle.event.specs.Values.{keysFrom, eventFor}
+use Rattle.event.specs.Meaning.{keysFrom, eventFor}
 use Rattle.event.specs.Event.{eventOf}
-use Rattle.event.proofs.Values.{Lawful}
+use Rattle.event.proofs.Meaning.{Lawful}
 use Rattle.table.specs.Decode.{settingIn, decode}
 use Rattle.lawful.proofs.Facts.{formed}
 use Rattle.decision.specs.Answered.{answered}

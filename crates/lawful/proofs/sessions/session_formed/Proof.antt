@@ -3,7 +3,7 @@ use mathlib.Core.Bool.{and-false}
 use borrow.Author.Tests.{lt-ltb, le-ltb}
 use Rattle.codec.proofs.Tests.{fails, passes}
 use Rattle.parts.specs.Session.{sessionIn}
-use Rattle.lawful.specs.Values.{sessionLawful}
+use Rattle.lawful.specs.LawfulValues.{sessionLawful}
 use Rattle.lawful.specs.WellFormed.{sessionFormed}
 use Rattle.lawful.proofs.sessions.session_formed.Statement.{statement}
 use Rattle.lawful.proofs.sessions.session_formed.Tie as tie

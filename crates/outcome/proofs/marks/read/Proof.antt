@@ -6,8 +6,8 @@ use native.Mathlib.Omega.{arith}
 use borrow.Author.Needs.{needs}
 use lib.Dec.{eqb}
 use lib.ListN.{length, getD, length-set}
-use Rattle.codec.proofs.Tabulate.{tab-ext}
-use Rattle.parts.proofs.Marks.{markOf, filled-more}
+use Rattle.codec.proofs.Tabulate.{tab-ext, filled-more}
+use Rattle.parts.proofs.Marks.{markOf}
 use Rattle.outcome.proofs.Backward.{marks-read}
 use Rattle.outcome.proofs.marks.read.Statement.{statement}
 use Rattle.outcome.proofs.marks.read.Tie as tie

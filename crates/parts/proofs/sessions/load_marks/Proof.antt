@@ -8,7 +8,7 @@ use borrow.Author.Needs.{needs}
 use lib.ListN.{length, getD, length-set}
 use lib.Dec.{eqb}
 use Rattle.codec.specs.Le.{load}
-use Rattle.parts.proofs.Marks.{filled-more}
+use Rattle.codec.proofs.Tabulate.{filled-more}
 use Rattle.parts.proofs.sessions.load_marks.Statement.{statement}
 use Rattle.parts.proofs.sessions.load_marks.Tie as tie
 

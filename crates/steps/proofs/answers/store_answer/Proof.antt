@@ -1,10 +1,10 @@
--- `steps::pieces::store_answer` meets its contract: the six stores one after the other.
+-- `steps::answers::store_answer` meets its contract: the six stores one after the other.
 use mathlib.Core.Path.{_∙_}
 use mir.Syntax.{w32}
 use mir.Facts.{toZ-ofZ}
 use Rattle.steps.specs.Run.{putAnswer}
-use Rattle.steps.proofs.pieces.store_answer.Statement.{statement}
-use Rattle.steps.proofs.pieces.store_answer.Tie as tie
+use Rattle.steps.proofs.answers.store_answer.Statement.{statement}
+use Rattle.steps.proofs.answers.store_answer.Tie as tie
 use borrow.Author.Needs.{needs}
 
 values-of-requires : tie.Need-values-of-requires

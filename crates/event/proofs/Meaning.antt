@@ -18,7 +18,7 @@ use Rattle.protocol.specs.Needs.{ranges}
 use Rattle.event.specs.declared.Fields.{Fields}
 use Rattle.event.specs.Fields.{uses, zeroAt, restZero, unusedZero}
 use Rattle.event.specs.Event.{codeLawful, keysOf, eventOf, met}
-use Rattle.event.specs.Values.{fieldsIn, keysFrom, eventFor, eventFrom}
+use Rattle.event.specs.Meaning.{fieldsIn, keysFrom, eventFor, eventFrom}
 use Rattle.event.specs.Ranges.{inRange, usedBy, zeroIn, fieldLawful, fieldsLawful}
 use Rattle.event.proofs.Ranges.{zeroUnused, usedInRange, field-lawful, fields-lawful}
 

@@ -1,5 +1,5 @@
 -- An event's fields as the code holds them: the values of the bytes, of whatever code, and the event that such values say. That this is the
--- event of the bytes is proved in proofs/Values.
+-- event of the bytes is proved in proofs/Meaning.
 use Prim.Native.Nat.{ℕ, _+_, _-_}
 use mathlib.Core.List.{List, [], _∷_}
 use lib.ListN.{getD}

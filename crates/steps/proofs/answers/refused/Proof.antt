@@ -1,8 +1,8 @@
--- `steps::pieces::refused` meets its contract.
+-- `steps::answers::refused` meets its contract.
 use mathlib.Core.Path.{refl}
 use Rattle.protocol.specs.Event.{plain}
-use Rattle.steps.proofs.pieces.refused.Statement.{statement}
-use Rattle.steps.proofs.pieces.refused.Tie as tie
+use Rattle.steps.proofs.answers.refused.Statement.{statement}
+use Rattle.steps.proofs.answers.refused.Tie as tie
 
 returns : tie.Need-returns
 unfolding plain

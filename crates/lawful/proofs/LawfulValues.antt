@@ -18,7 +18,7 @@ use Rattle.protocol.specs.Past.{_∈_}
 use Rattle.record.specs.Ranges.{vecLawful}
 use Rattle.record.proofs.Ranges.{LawfulMsg, LawfulRec, LawfulVec, vec-facts, vec-fits, vec-lawful}
 use Rattle.parts.specs.Fits.{FitsMarks, FitsSession}
-use Rattle.lawful.specs.Values.{keysOf, pageLawful, sessionLawful}
+use Rattle.lawful.specs.LawfulValues.{keysOf, pageLawful, sessionLawful}
 
 -- ---- pages: `keys` holds of closed pages too
 
