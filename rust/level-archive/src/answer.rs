@@ -1,4 +1,4 @@
-//! Answers: typed, as document 01's five values, and in 16 bytes.
+//! Answers: typed, as five values (R34), and in 16 bytes.
 
 use core::error::Error;
 use core::fmt;
@@ -73,7 +73,7 @@ pub struct Values {
 }
 
 impl Answer {
-    /// Document 01's number.
+    /// Its number (R60).
     pub fn number(self) -> u8 {
         self.values().number
     }
@@ -96,7 +96,7 @@ impl Answer {
         }
     }
 
-    /// Document 01's five values; `try_from` is the way back.
+    /// Its five values (R34); `try_from` is the way back.
     pub fn values(self) -> Values {
         let only = |number| Values { number, ..Values::default() };
         match self {

@@ -1,4 +1,4 @@
-//! An event's 32 bytes, as document 01 lays them out: 0 code, 1 site,
+//! An event's 32 bytes (R30): 0 code, 1 site,
 //! 2 partition, 3 session, 4 key, 5 quality, 6 from, 7 count, 8–15 time,
 //! 16–19 level, 20–27 page keys, 28–31 zero.
 

@@ -1,4 +1,4 @@
-//! Events as text, as document 01 writes them: there and back.
+//! Events as text: there and back.
 
 use alloc::format;
 use alloc::string::{String, ToString};
@@ -11,7 +11,7 @@ use crate::page_keys::{PageKeys, TooManyKeys};
 use crate::words::Words;
 
 impl Event {
-    /// Its name in document 01.
+    /// Its name in the rules.
     pub fn name(self) -> &'static str {
         match self {
             Event::Open { .. } => "OPEN",
@@ -29,7 +29,7 @@ impl Event {
 }
 
 impl fmt::Display for Event {
-    /// As document 01 writes events; a quality of 0 is left out.
+    /// A line of words and numbers; a quality of 0 is left out.
     fn fmt(&self, f: &mut fmt::Formatter<'_>) -> fmt::Result {
         f.write_str(self.name())?;
         match *self {

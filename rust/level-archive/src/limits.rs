@@ -1,4 +1,4 @@
-//! The numbers of document 01's first table.
+//! The limits (R1 to R7).
 
 /// The most sites; they are numbered from 0.
 pub const SITES: u8 = 4;

@@ -25,7 +25,7 @@ pub enum Quality {
 }
 
 impl Quality {
-    /// Document 01's number, 0 to 2.
+    /// Its number, 0 to 2.
     pub const fn number(self) -> u8 {
         self as u8
     }

@@ -1,4 +1,4 @@
-//! The refusals: document 01's numbers 10 to 24, each with its reason in words.
+//! The refusals: the numbers 10 to 24 (R60), each with its reason in words.
 
 use core::error::Error;
 use core::fmt;
@@ -72,7 +72,7 @@ impl Refusal {
         Refusal::IllFormed,
     ];
 
-    /// Document 01's number, 10 to 24.
+    /// Its number, 10 to 24.
     pub const fn number(self) -> u8 {
         self as u8
     }

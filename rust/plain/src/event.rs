@@ -41,7 +41,7 @@ const TIME: Field = (8, 8);
 const LEVEL: Field = (16, 4);
 const PAGE: Field = (20, 8);
 
-/// For each code from 1 the fields that document 01's table names, and from them the
+/// For each code from 1 the fields that R31 names, and from them the
 /// bits that must be zero. They are four words for speed alone: byte by byte says
 /// the same.
 const UNUSED: [[u64; 4]; 10] = [

@@ -1,4 +1,4 @@
-//! The marked examples P1 to P11 of document 01.
+//! The examples P1 to P11 of docs/RULES.md.
 
 use crate::make;
 use crate::session::{Page, Session, raise_by};

@@ -1,4 +1,4 @@
-//! Document 01 over plain structs: causal replication for a level archive.
+//! The rules (docs/RULES.md) over plain structs: causal replication for a level archive.
 //!
 //! The state is typed and never bytes; only events come as bytes. So a step
 //! never gives 24 (a table that isn't well formed).

@@ -1,4 +1,4 @@
-//! The numbers of document 01's first table.
+//! The limits (R1 to R7).
 
 /// The most sites.
 pub const SITES: usize = 4;

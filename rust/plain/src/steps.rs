@@ -1,5 +1,5 @@
 //! The protocol's ten steps. Each begins with its table of refusals, in the
-//! order of document 01's table, the wait last; after it nothing fails.
+//! order of R60, the wait last; after it nothing fails.
 
 use crate::answer::Answer;
 use crate::archive::Archive;

@@ -1,7 +1,7 @@
 //! The archive's table of 57,344 bytes, as docs/LAYOUT.md lays it out: whether
 //! it is well formed, and what it then says.
 //!
-//! Written from document 01's "A table is well formed when", docs/LAYOUT.md and
+//! Written from the rules R20 to R28, docs/LAYOUT.md and
 //! docs/DECISIONS.md on what those words mean, and not from the core.
 
 mod differ;

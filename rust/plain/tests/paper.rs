@@ -1,4 +1,4 @@
-//! What document 01 prints of its bench, and the numbers given back in the
+//! The lines of vectors/base/document-01.out, and the numbers given back in the
 //! order of its table.
 
 use plain::make;

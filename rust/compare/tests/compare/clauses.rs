@@ -1,4 +1,4 @@
-//! Document 01's "A table is well formed when", clause by clause: of each, the
+//! When a table is well formed (R20 to R28), clause by clause: of each, the
 //! last lawful and the first unlawful number, to the core and to the
 //! independent check alike.
 

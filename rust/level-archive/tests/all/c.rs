@@ -84,7 +84,7 @@ fn version() -> String {
     format!("{version} {number}\n")
 }
 
-/// Document 01's numbers, in the header's order.
+/// The numbers of R60, in the header's order.
 fn limits() -> String {
     let (sessions, keys) = (SESSIONS - 1, KEYS - 1);
     let counts = format!("{SITES} {PARTITIONS} {sessions} {keys} {PAGE_KEYS}");

@@ -1,8 +1,8 @@
-//! Document 01's 17 events through the typed face give its 17 lines.
+//! The 17 events of vectors/base/document-01.events through the typed face give their 17 lines.
 
 use level_archive::{Answer, Archive, Event, Quality};
 
-/// The events, each as document 01 writes it and with its line after the place.
+/// The events, each as text and with its line after the place.
 fn document() -> Vec<(Event, &'static str, &'static str)> {
     vec![
         (Event::open(0, 0), "OPEN session 0 site 0", "1 0 0 0 0 0"),

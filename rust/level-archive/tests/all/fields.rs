@@ -6,7 +6,7 @@ use std::ops::Range;
 use crate::boundary::{refused, used_table};
 use level_archive::{EVENT_BYTES, Event, Quality, sys};
 
-/// Document 01's fields: where they stand in an event.
+/// The fields (R30): where they stand in an event.
 const SITE: Range<usize> = 1..2;
 const PARTITION: Range<usize> = 2..3;
 const SESSION: Range<usize> = 3..4;
@@ -18,7 +18,7 @@ const TIME: Range<usize> = 8..16;
 const LEVEL: Range<usize> = 16..20;
 
 /// For each code an event with the largest numbers of 2 sites and 3 partitions, and
-/// the fields that document 01 names for it. BEGIN's page keys come with its count.
+/// the fields that R31 names for it. BEGIN's page keys come with its count.
 fn lawful() -> [(Event, Vec<Range<usize>>); 10] {
     let page = Event::begin(15, 2, &[63, 62, 61]).expect("three keys");
     [

@@ -1,4 +1,4 @@
-//! Document 01's bench program: events from standard input into an archive of
+//! The bench program (R90 to R92): events from standard input into an archive of
 //! 4 sites and 4 partitions, one line for each to standard output.
 
 use std::io;

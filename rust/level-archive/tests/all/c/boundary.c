@@ -147,7 +147,7 @@ static const field FIELDS[] = {{1, 1, 2}, {2, 1, 3}, {3, 1, 16}, {4, 1, 64}, {5,
                                {16, 4, 1000001}, {20, 1, 64}, {21, 7, 1}, {28, 4, 1}};
 enum { FIELDS_COUNT = sizeof FIELDS / sizeof FIELDS[0] };
 
-/* Document 01's table: which of FIELDS each code uses (BEGIN here with one key). */
+/* R31: which of FIELDS each code uses (BEGIN here with one key). */
 static const char *USED[10] = {"s-s---------", "--s---------", "sp-----t----", "--sk--------", "--skq---l---",
                                "-ps---c--k--", "--sk--------", "--s---------", "sp----------", "sp---f------"};
 
