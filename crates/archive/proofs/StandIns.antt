@@ -19,7 +19,7 @@ use Rattle.protocol.specs.declared.Refusal.{Refusal}
 use Rattle.protocol.specs.declared.Answer.the-variants.{Done, Value, Refused}
 use Rattle.protocol.specs.Step.{step, next, after}
 use Rattle.protocol.proofs.Runs.{computing}
-use Rattle.event.specs.Event.{codeLawful, timeOf, levelIn, keysOf, eventOf}
+use Rattle.event.specs.Event.{codeLawful, eventOf}
 use Rattle.event.specs.Fields.{uses, zeroAt, restZero, unusedZero}
 use Rattle.table.specs.Parts.{tableLength}
 use Rattle.table.specs.Decode.{decode}
@@ -78,7 +78,7 @@ delivers = event 10 1 0 0 0 0 0
 
 -- a proof that unfolds this lets the checker compute whole runs from bytes
 unfoldable reading : Unit {0}
-unfolding computing after four opens clockTo putsLevel gets delivers isEvent eventsOf codeLawful unusedZero uses zeroAt restZero timeOf levelIn keysOf eventOf load levelFrom tabulate allBelow length
+unfolding computing after four opens clockTo putsLevel gets delivers isEvent eventsOf codeLawful unusedZero uses zeroAt restZero eventOf load levelFrom tabulate allBelow length
 reading = tt
 
 -- what `step` answers after some events, and what its table then says, by the protocol

@@ -15,13 +15,13 @@ use Rattle.codec.proofs.Tests.{cond-elim, yes-eqb}
 use Rattle.codec.proofs.Tabulate.{tab-snoc}
 use Rattle.vector.specs.Vec.{width}
 use Rattle.protocol.specs.Record.{Setting}
-use Rattle.protocol.specs.State.{Net, State, setup}
-use Rattle.protocol.specs.Event.{Event, plain, numberOf}
-use Rattle.protocol.specs.declared.Answer.{Answer}
+use Rattle.protocol.specs.State.{State, setup}
+use Rattle.protocol.specs.Event.{plain, numberOf}
+use Rattle.protocol.specs.View.{place}
 use Rattle.protocol.specs.Step.{step, next, after, log}
 use Rattle.protocol.specs.Past.{served, history}
 use Rattle.protocol.specs.Causal.{GetCausal}
-use Rattle.protocol.specs.Count.{puts, delivers, count, waiting}
+use Rattle.protocol.specs.Count.{writtenAt, takenAt, delivered, waiting}
 use Rattle.protocol.proofs.Conserve.{conserved}
 use Rattle.protocol.proofs.Numbers.{no-24}
 use Rattle.protocol.proofs.Causal as Protocol
@@ -40,7 +40,7 @@ use Rattle.steps.specs.Run.{pieceAnswered, runBy}
 use Rattle.steps.proofs.Stepped.{cond-yes, cond-not}
 use Rattle.archive.specs.Call.{stepCall, setupCall}
 use Rattle.archive.specs.Run.{piecesOf, runCall}
-use Rattle.archive.specs.Story.{isEvent, eventsOf, tableAfter, linesOf, countOf}
+use Rattle.archive.specs.Story.{isEvent, eventsOf, tableAfter, linesOf, deliveredOf}
 use Rattle.archive.specs.Promises.{setUp, Faithful, CausalGetBytes, CausalPageBytes, ConservedBytes, NeverIll, RunIsSteps}
 
 -- ---- a test that is known
@@ -112,17 +112,17 @@ decode-step t e R i = ap (λ c. decode (c .table)) (step-event t e R i) ∙ step
 pub record Told (t : List ℕ) (es : List (List ℕ)) (S : State) : Type 1 where
   pub state : decode (tableAfter t es) ≡ after S (eventsOf es)
   pub lines : linesOf t es ≡ log S (eventsOf es)
-  pub counts : (kind : Net → Event → Answer → Bool) → countOf kind t es ≡ count kind S (eventsOf es)
+  pub counts : (i m p : ℕ) → deliveredOf i m p t es ≡ delivered i m p S (eventsOf es)
 
 told-event : (t e : List ℕ) (es : List (List ℕ)) → Sound tableLength t → T (isEvent e) → Told (stepCall t e .table) es (decode (stepCall t e .table)) → Told t (e ∷ es) (decode t)
-unfolding tableAfter linesOf countOf after log count eventsOf
+unfolding tableAfter linesOf deliveredOf after log delivered eventsOf
 told-event t e es R i I = record {
   state = I .state ∙ ap (λ S. after S (eventsOf es)) D ∙ sym (ap (after (decode t)) E);
   lines = cond-yes (isEvent e) _ _ i ∙ (λ j. record { event = eventOf e; says = A j } ∷ L j) ∙ sym (ap (log (decode t)) E);
-  counts = λ kind.
-      ap₂ _+_ (ap (λ b. cond b 1 0) (and-known (isEvent e) (served (stepCall t e .answer) && kind (decode t .net) (eventOf e) (stepCall t e .answer)) i) ∙ ap (λ a. cond (served a && kind (decode t .net) (eventOf e) a) 1 0) A)
-      (I .counts kind ∙ ap (λ S. count kind S (eventsOf es)) D)
-      ∙ sym (ap (count kind (decode t)) E);
+  counts = λ g m p.
+      ap₂ _+_ (ap (λ b. cond b 1 0) (and-known (isEvent e) (served (stepCall t e .answer) && takenAt g m p (decode t .net) (place (eventOf e))) i) ∙ ap (λ a. cond (served a && takenAt g m p (decode t .net) (place (eventOf e))) 1 0) A)
+      (I .counts g m p ∙ ap (λ S. delivered g m p S (eventsOf es)) D)
+      ∙ sym (ap (delivered g m p (decode t)) E);
 }
   where
     D : decode (stepCall t e .table) ≡ next (decode t) (eventOf e)
@@ -138,15 +138,15 @@ told-event t e es R i I = record {
     E = cond-yes (isEvent e) _ _ i
 
 told-other : (t e : List ℕ) (es : List (List ℕ)) → Sound tableLength t → T (not (isEvent e)) → Told (stepCall t e .table) es (decode (stepCall t e .table)) → Told t (e ∷ es) (decode t)
-unfolding tableAfter linesOf countOf eventsOf
+unfolding tableAfter linesOf deliveredOf eventsOf
 told-other t e es R i I = record {
   state = I .state ∙ ap (λ u. after (decode u) (eventsOf es)) D ∙ sym (ap (after (decode t)) E);
   lines = cond-not (isEvent e) _ _ i ∙ I .lines ∙ ap (λ u. log (decode u) (eventsOf es)) D ∙ sym (ap (log (decode t)) E);
-  counts = λ kind.
-      ap₂ _+_ (ap (λ b. cond b 1 0) (and-unknown (isEvent e) (served (stepCall t e .answer) && kind (decode t .net) (eventOf e) (stepCall t e .answer)) i))
-      (I .counts kind ∙ ap (λ u. count kind (decode u) (eventsOf es)) D)
-      ∙ zero-add (count kind (decode t) (eventsOf es))
-      ∙ sym (ap (count kind (decode t)) E);
+  counts = λ g m p.
+      ap₂ _+_ (ap (λ b. cond b 1 0) (and-unknown (isEvent e) (served (stepCall t e .answer) && takenAt g m p (decode t .net) (place (eventOf e))) i))
+      (I .counts g m p ∙ ap (λ u. delivered g m p (decode u) (eventsOf es)) D)
+      ∙ zero-add (delivered g m p (decode t) (eventsOf es))
+      ∙ sym (ap (delivered g m p (decode t)) E);
 }
   where
     D : stepCall t e .table ≡ t
@@ -156,8 +156,8 @@ told-other t e es R i I = record {
     E = cond-not (isEvent e) _ _ i
 
 pub told : (t : List ℕ) (es : List (List ℕ)) → Sound tableLength t → Told t es (decode t)
-unfolding tableAfter linesOf countOf after log count eventsOf
-told t [] R = record { state = refl; lines = refl; counts = λ kind. refl }
+unfolding tableAfter linesOf deliveredOf after log delivered eventsOf
+told t [] R = record { state = refl; lines = refl; counts = λ g m p. refl }
 told t (e ∷ es) R = go (isEvent e) (λ i. i) (λ i. i) (told (stepCall t e .table) es (call-sound t e R))
   where
     go : (b : Bool) → (T b → T (isEvent e)) → (T (not b) → T (not (isEvent e))) → Told (stepCall t e .table) es (decode (stepCall t e .table)) → Told t (e ∷ es) (decode t)
@@ -206,8 +206,8 @@ causal-page-bytes c l t long es s = rw (run-told c l t long es .lines) (Protocol
 pub conserved-bytes : ConservedBytes
 conserved-bytes c l t long es i m p d b =
     let K = run-told c l t long es in
-    K .counts (puts i p) ∙ conserved c (eventsOf es) i m p d b
-    ∙ ap₂ _+_ (sym (K .counts (delivers i m p))) (ap (λ S. waiting (S .net .chan i m p)) (sym (K .state)))
+    ap (λ ls. writtenAt c i p (history ls .writes)) (K .lines) ∙ conserved c (eventsOf es) i m p d b
+    ∙ ap₂ _+_ (sym (K .counts i m p)) (ap (λ S. waiting (S .net .chan i m p)) (sym (K .state)))
 
 pub never-ill : NeverIll
 never-ill c l t long es e = go (isEvent e) (λ i. i) (λ i. i)

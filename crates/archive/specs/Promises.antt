@@ -14,7 +14,7 @@ use Rattle.protocol.specs.State.{setup}
 use Rattle.protocol.specs.Step.{after, log}
 use Rattle.protocol.specs.Past.{history}
 use Rattle.protocol.specs.Causal.{GetCausal, PageCausal}
-use Rattle.protocol.specs.Count.{puts, delivers, waiting}
+use Rattle.protocol.specs.Count.{writtenAt, waiting}
 use Rattle.event.specs.Event.{eventOf}
 use Rattle.table.specs.Parts.{tableLength}
 use Rattle.table.specs.Decode.{decode}
@@ -22,7 +22,7 @@ use Rattle.lawful.specs.LawfulValues.{settingLawful}
 use Rattle.reader.specs.Pieces.{pieceOf}
 use Rattle.archive.specs.Call.{stepCall, setupCall}
 use Rattle.archive.specs.Run.{piecesOf, runCall}
-use Rattle.archive.specs.Story.{isEvent, eventsOf, tableAfter, linesOf, countOf}
+use Rattle.archive.specs.Story.{isEvent, eventsOf, tableAfter, linesOf, deliveredOf}
 
 -- the table t, of any bytes, set up for the constants
 abbrev pub setUp : Setting → List ℕ → List ℕ
@@ -52,10 +52,10 @@ CausalGetBytes = FromSetup (λ c t es. (e : List ℕ) (s k : ℕ) → T (isEvent
 abbrev pub CausalPageBytes : Type 0
 CausalPageBytes = FromSetup (λ c t es. (s : ℕ) → PageCausal c (history (linesOf t es)) s)
 
--- CONSERVATION on the channel from site i to site m at partition p
+-- CONSERVATION on the channel from site i to site m at partition p: what was written at the sender is what was delivered and what waits
 abbrev pub ConservedBytes : Type 0
 ConservedBytes = FromSetup (λ c t es. (i m p : ℕ) → i ≢ m → m < c .sites →
-    countOf (puts i p) t es ≡ countOf (delivers i m p) t es + waiting (decode (tableAfter t es) .net .chan i m p))
+    writtenAt c i p (history (linesOf t es) .writes) ≡ deliveredOf i m p t es + waiting (decode (tableAfter t es) .net .chan i m p))
 
 -- a table that setup and steps have led to is never refused with 24
 abbrev pub NeverIll : Type 0

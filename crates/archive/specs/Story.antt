@@ -5,11 +5,11 @@ use mathlib.Core.Bool.{Bool, cond, _&&_}
 use mathlib.Core.List.{List, [], _∷_}
 use lib.Dec.{eqb}
 use lib.ListN.{length}
-use Rattle.protocol.specs.State.{Net}
 use Rattle.protocol.specs.Event.{Event}
-use Rattle.protocol.specs.declared.Answer.{Answer}
+use Rattle.protocol.specs.View.{place}
 use Rattle.protocol.specs.Step.{Line}
 use Rattle.protocol.specs.Past.{served}
+use Rattle.protocol.specs.Count.{takenAt}
 use Rattle.event.specs.Event.{codeLawful, eventOf}
 use Rattle.event.specs.Fields.{unusedZero}
 use Rattle.table.specs.Decode.{decode}
@@ -35,9 +35,9 @@ linesOf t (e ∷ es) =
     let rest = linesOf (c .table) es in
     cond (isEvent e) (record { event = eventOf e; says = c .answer } ∷ rest) rest
 
--- how many of the events are served and of the kind
-unfoldable pub countOf : (Net → Event → Answer → Bool) → List ℕ → List (List ℕ) → ℕ
-countOf kind t [] = 0
-countOf kind t (e ∷ es) =
+-- how many of the calls delivered an update from site i to node (m, p)
+unfoldable pub deliveredOf : (i m p : ℕ) → List ℕ → List (List ℕ) → ℕ
+deliveredOf i m p t [] = 0
+deliveredOf i m p t (e ∷ es) =
     let c = stepCall t e in
-    cond (isEvent e && (served (c .answer) && kind (decode t .net) (eventOf e) (c .answer))) 1 0 + countOf kind (c .table) es
+    cond (isEvent e && (served (c .answer) && takenAt i m p (decode t .net) (place (eventOf e)))) 1 0 + deliveredOf i m p (c .table) es

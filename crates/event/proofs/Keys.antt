@@ -17,7 +17,6 @@ use Rattle.codec.proofs.Tests.{yes-or-r, yes-eqb, same-test, and-behind}
 use Rattle.codec.proofs.Tabulate.{tab-length, tab-at}
 use Rattle.protocol.specs.Needs.{keysLawful}
 use Rattle.event.specs.Fields.{restZero}
-use Rattle.event.specs.Event.{keysOf}
 use Rattle.event.specs.Ranges.{keysBelow}
 
 keysLawful-tabulate : (n : ℕ) (f : ℕ → ℕ) → keysLawful (tabulate n f) ≡ allBelow n (λ i. ltb (f i) 64)
@@ -27,12 +26,14 @@ keysLawful-tabulate (suc n) f = rw (keysLawful-tabulate n (λ i. f (suc i))) (sy
 
 -- ---- an event's keys
 
-pub length-keysOf : (e : List ℕ) → length (keysOf e) ≡ load 1 e 7
-unfolding keysOf
-length-keysOf e = tab-length (load 1 e 7) (λ i. load 1 e (20 + i))
+abbrev pub keys : List ℕ → List ℕ
+keys e = tabulate (load 1 e 7) (λ i. load 1 e (20 + i))
 
-keysBelow-lawful : (e : List ℕ) → load 1 e 7 ≤ 8 → keysBelow (tabulate 8 (λ i. load 1 e (20 + i))) (load 1 e 7) ≡ keysLawful (keysOf e)
-unfolding keysBelow keysOf
+pub length-keys : (e : List ℕ) → length (keys e) ≡ load 1 e 7
+length-keys e = tab-length (load 1 e 7) (λ i. load 1 e (20 + i))
+
+keysBelow-lawful : (e : List ℕ) → load 1 e 7 ≤ 8 → keysBelow (tabulate 8 (λ i. load 1 e (20 + i))) (load 1 e 7) ≡ keysLawful (keys e)
+unfolding keysBelow
 keysBelow-lawful e h =
     let n = load 1 e 7 in
     let f : ℕ → ℕ = λ i. load 1 e (20 + i) in
@@ -41,7 +42,7 @@ keysBelow-lawful e h =
 
 -- a count beyond 8 is out of range, whatever the keys are
 pub count-keys : (e : List ℕ)
-    → (leb (load 1 e 7) 8 && keysBelow (tabulate 8 (λ i. load 1 e (20 + i))) (load 1 e 7)) ≡ (leb (load 1 e 7) 8 && keysLawful (keysOf e))
+    → (leb (load 1 e 7) 8 && keysBelow (tabulate 8 (λ i. load 1 e (20 + i))) (load 1 e 7)) ≡ (leb (load 1 e 7) 8 && keysLawful (keys e))
 count-keys e = and-behind (leb (load 1 e 7) 8) _ _ (λ t. keysBelow-lawful e (leb-yes t))
 
 -- ---- no keys at all

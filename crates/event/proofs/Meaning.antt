@@ -10,6 +10,7 @@ use lib.ListN.{getD}
 use mir.Facts.{and-yes, leb-yes, eqb-yes}
 use Rattle.codec.specs.Le.{load}
 use Rattle.codec.specs.Below.{allBelow}
+use Rattle.codec.specs.Tabulate.{tabulate}
 use Rattle.codec.proofs.Below.{all-below-at}
 use Rattle.codec.proofs.Tests.{either-yes, used-yes}
 use Rattle.codec.proofs.Tabulate.{tab-at, tab-ext}
@@ -17,7 +18,7 @@ use Rattle.protocol.specs.Record.{Setting}
 use Rattle.protocol.specs.Needs.{ranges}
 use Rattle.event.specs.declared.Fields.{Fields}
 use Rattle.event.specs.Fields.{uses, zeroAt, restZero, unusedZero}
-use Rattle.event.specs.Event.{codeLawful, keysOf, eventOf, met}
+use Rattle.event.specs.Event.{codeLawful, eventOf, met}
 use Rattle.event.specs.Meaning.{fieldsIn, keysFrom, eventFor, eventFrom}
 use Rattle.event.specs.Ranges.{inRange, usedBy, zeroIn, fieldLawful, fieldsLawful}
 use Rattle.event.proofs.Ranges.{zeroUnused, usedInRange, field-lawful, fields-lawful}
@@ -47,8 +48,8 @@ module _ (c : Setting) (e : List ℕ) where
 
 -- ---- the event
 
-keysFrom-fieldsIn : (e : List ℕ) → load 1 e 7 ≤ 8 → keysFrom (fieldsIn e) ≡ keysOf e
-unfolding keysFrom fieldsIn keysOf
+keysFrom-fieldsIn : (e : List ℕ) → load 1 e 7 ≤ 8 → keysFrom (fieldsIn e) ≡ tabulate (load 1 e 7) (λ i. load 1 e (20 + i))
+unfolding keysFrom fieldsIn
 keysFrom-fieldsIn e h = tab-ext (load 1 e 7) _ _ (λ i b. tab-at 8 (λ i. load 1 e (20 + i)) 0 i (omega arith))
 
 pub eventFrom-fieldsIn : (c : Setting) (e : List ℕ) → Lawful c e → eventFrom (fieldsIn e) ≡ eventOf e

@@ -16,10 +16,10 @@ use Rattle.codec.proofs.Tests.{and-turn}
 use Rattle.protocol.specs.Record.{Setting}
 use Rattle.protocol.specs.Needs.{ranges}
 use Rattle.event.specs.Fields.{uses, zeroAt, startOf, sizeOf, restZero, unusedZero}
-use Rattle.event.specs.Event.{codeLawful, timeOf, levelIn, eventOf, met}
+use Rattle.event.specs.Event.{codeLawful, eventOf, met}
 use Rattle.event.specs.Meaning.{fieldsIn}
 use Rattle.event.specs.Ranges.{inRange, usedBy, zeroIn, fieldLawful, fieldsLawful}
-use Rattle.event.proofs.Keys.{length-keysOf, count-keys}
+use Rattle.event.proofs.Keys.{length-keys, count-keys}
 
 -- the field f of the code n + 1 is zero unless it is used, and in its range if it is
 abbrev pub zeroUnused : List ℕ → (n f : ℕ) → Bool
@@ -31,14 +31,14 @@ usedInRange c e n f = not (uses n f) || getD (inRange c (fieldsIn e)) f false
 -- ---- what each code asks of the fields that it uses, from OPEN to DELIVER
 
 asked-met : (c : Setting) (e : List ℕ) (n : ℕ) → n < 10 → load 1 e 0 - 1 ≡ n → allBelow 10 (usedInRange c e n) ≡ met (ranges c (eventOf e))
-unfolding allBelow uses inRange fieldsIn eventOf met ranges timeOf levelIn
+unfolding allBelow uses inRange fieldsIn eventOf met ranges
 asked-met c e =
     first _ 9 (λ q. simp (q, and-true, and-assoc))
     (first _ 8 (λ q. simp (q, and-true))
     (first _ 7 (λ q. simp (q, and-true, and-assoc))
     (first _ 6 (λ q. simp (q, and-true))
     (first _ 5 (λ q. simp (q, and-true, and-assoc))
-    (first _ 4 (λ q. simp (q, and-true, and-assoc, length-keysOf, count-keys))
+    (first _ 4 (λ q. simp (q, and-true, and-assoc, length-keys, count-keys))
     (first _ 3 (λ q. simp (q, and-true))
     (first _ 2 (λ q. simp (q, and-true))
     (first _ 1 (λ q. simp (q, and-true))

@@ -5,7 +5,6 @@ use mathlib.Core.Bool.{Bool, _&&_, true}
 use mathlib.Core.List.{List, [], _∷_}
 use lib.Dec.{ltb}
 use lib.ListN.{getD}
-use lib.IntN.{ℤ}
 use Rattle.codec.specs.Le.{load}
 use Rattle.codec.specs.Level.{levelFrom}
 use Rattle.codec.specs.Tabulate.{tabulate}
@@ -16,16 +15,7 @@ use Rattle.protocol.specs.Needs.{Need}
 unfoldable pub codeLawful : List ℕ → Bool
 codeLawful e = ltb 0 (load 1 e 0) && ltb (load 1 e 0) 11
 
-unfoldable pub timeOf : List ℕ → ℕ
-timeOf e = load 8 e 8
-
-unfoldable pub levelIn : List ℕ → ℤ
-levelIn e = levelFrom (load 4 e 16)
-
--- as many keys as the count says
-unfoldable pub keysOf : List ℕ → List ℕ
-keysOf e = tabulate (load 1 e 7) (λ i. load 1 e (20 + i))
-
+-- a page has as many keys as the count says
 unfoldable pub eventOf : List ℕ → Event
 eventOf e =
     let m = load 1 e 1 in
@@ -35,10 +25,10 @@ eventOf e =
     getD
     (OPEN s m
     ∷ CLOSE s
-    ∷ CLOCK m p (timeOf e)
+    ∷ CLOCK m p (load 8 e 8)
     ∷ GET s k
-    ∷ PUT s k (load 1 e 5) (levelIn e)
-    ∷ BEGIN s p (keysOf e)
+    ∷ PUT s k (load 1 e 5) (levelFrom (load 4 e 16))
+    ∷ BEGIN s p (tabulate (load 1 e 7) (λ i. load 1 e (20 + i)))
     ∷ READ s k
     ∷ END s
     ∷ BEAT m p

@@ -7,6 +7,7 @@ use lib.Dec.{eqb, ltb}
 use lib.ListN.{getD}
 use Rattle.codec.specs.Le.{load}
 use Rattle.codec.specs.Below.{allBelow}
+use Rattle.codec.specs.Lists.{has}
 
 -- ---- the fields, by number
 
@@ -62,10 +63,6 @@ fieldsNamed =
     ∷ (site ∷ partition ∷ [])
     ∷ (from ∷ site ∷ partition ∷ [])
     ∷ []
-
-abbrev pub has : List ℕ → ℕ → Bool
-has [] f = false
-has (g ∷ fs) f = eqb g f || has fs f
 
 -- the code row + 1 uses the field f
 unfoldable pub uses : (row f : ℕ) → Bool

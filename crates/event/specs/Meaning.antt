@@ -4,10 +4,10 @@ use Prim.Native.Nat.{ℕ, _+_, _-_}
 use mathlib.Core.List.{List, [], _∷_}
 use lib.ListN.{getD}
 use Rattle.codec.specs.Le.{load}
+use Rattle.codec.specs.Level.{levelFrom}
 use Rattle.codec.specs.Tabulate.{tabulate}
 use Rattle.protocol.specs.Event.{Event, OPEN, CLOSE, CLOCK, GET, PUT, BEGIN, READ, END, BEAT, DELIVER}
 use Rattle.event.specs.declared.Fields.{Fields}
-use Rattle.event.specs.Event.{timeOf, levelIn}
 
 unfoldable pub fieldsIn : List ℕ → Fields
 fieldsIn e = record {
@@ -19,8 +19,8 @@ fieldsIn e = record {
   quality = load 1 e 5;
   from = load 1 e 6;
   count = load 1 e 7;
-  time = timeOf e;
-  level = levelIn e;
+  time = load 8 e 8;
+  level = levelFrom (load 4 e 16);
   keys = tabulate 8 (λ i. load 1 e (20 + i));
 }
 

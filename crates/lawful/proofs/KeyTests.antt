@@ -16,7 +16,8 @@ use Rattle.codec.proofs.Tabulate.{tab-length, tab-more, tab-none}
 use Rattle.vector.specs.Entries.{loadVec}
 use Rattle.protocol.specs.Record.{Setting}
 use Rattle.protocol.specs.State.{Mark}
-use Rattle.protocol.specs.Needs.{keysLawful, holdsKey, distinct}
+use Rattle.codec.specs.Lists.{has}
+use Rattle.protocol.specs.Needs.{keysLawful, distinct}
 use Rattle.record.specs.Ranges.{vecLawful}
 use Rattle.parts.specs.Session.{markAt, sessionIn}
 use Rattle.lawful.specs.LawfulValues.{keysOf, pageLawful}
@@ -35,10 +36,9 @@ unfolding keysLawful
 keysLawful-snoc [] k = and-true (ltb k 64)
 keysLawful-snoc (j ∷ ks) k = rw (keysLawful-snoc ks k) (sym (and-assoc (ltb j 64) (keysLawful ks) (ltb k 64)))
 
-holdsKey-snoc : (k : ℕ) (ks : List ℕ) (j : ℕ) → holdsKey k (ks ++ (j ∷ [])) ≡ (holdsKey k ks || eqb j k)
-unfolding holdsKey
-holdsKey-snoc k [] j = or-false (eqb j k)
-holdsKey-snoc k (i ∷ ks) j = rw (holdsKey-snoc k ks j) (sym (or-assoc (eqb i k) (holdsKey k ks) (eqb j k)))
+has-snoc : (k : ℕ) (ks : List ℕ) (j : ℕ) → has (ks ++ (j ∷ [])) k ≡ (has ks k || eqb j k)
+has-snoc k [] j = or-false (eqb j k)
+has-snoc k (i ∷ ks) j = rw (has-snoc k ks j) (sym (or-assoc (eqb i k) (has ks k) (eqb j k)))
 
 -- a: the first key is one of those between, b: it is the last, c: the last is one of those between, d: those between differ
 either-end : (a b c d : Bool) → (not (a || b) && (d && not c)) ≡ (not a && d && not (b || c))
@@ -47,11 +47,11 @@ either-end false true c true = refl
 either-end false true c false = refl
 either-end false false c d = refl
 
-distinct-snoc : (ks : List ℕ) (k : ℕ) → distinct (ks ++ (k ∷ [])) ≡ (distinct ks && not (holdsKey k ks))
-unfolding distinct holdsKey
+distinct-snoc : (ks : List ℕ) (k : ℕ) → distinct (ks ++ (k ∷ [])) ≡ (distinct ks && not (has ks k))
+unfolding distinct
 distinct-snoc [] k = refl
 distinct-snoc (j ∷ ks) k =
-    rw (holdsKey-snoc j ks k, distinct-snoc ks k, eqb-sym k j) (either-end (holdsKey j ks) (eqb j k) (holdsKey k ks) (distinct ks))
+    rw (has-snoc j ks k, distinct-snoc ks k, eqb-sym k j) (either-end (has ks j) (eqb j k) (has ks k) (distinct ks))
 
 neither : (a b : Bool) → not (a || b) ≡ (not a && not b)
 neither true b = refl
@@ -71,20 +71,19 @@ module _ (f : ℕ → ℕ) where
   counted g t none more (suc n) =
       ap (λ (k : ℕ). g (tabulate k f)) (sym (add-one n)) ∙ ap g (tabulate-more n) ∙ more n ∙ ap (λ (b : Bool). b && t n) (counted g t none more n)
 
-  pub holdsKey-all : (k n : ℕ) → not (holdsKey k (tabulate n f)) ≡ allBelow n (λ i. not (eqb (f i) k))
-  unfolding holdsKey
-  holdsKey-all k n =
-      counted (λ ks. not (holdsKey k ks)) (λ i. not (eqb (f i) k)) refl
-      (λ m. ap not (holdsKey-snoc k (tabulate m f) (f m)) ∙ neither (holdsKey k (tabulate m f)) (eqb (f m) k)) n
+  pub has-none : (k n : ℕ) → not (has (tabulate n f) k) ≡ allBelow n (λ i. not (eqb (f i) k))
+  has-none k n =
+      counted (λ ks. not (has ks k)) (λ i. not (eqb (f i) k)) refl
+      (λ m. ap not (has-snoc k (tabulate m f) (f m)) ∙ neither (has (tabulate m f) k) (eqb (f m) k)) n
 
   -- each key is in range, and none of those before it
-  pub keys-all : (n : ℕ) → (keysLawful (tabulate n f) && distinct (tabulate n f)) ≡ allBelow n (λ i. ltb (f i) 64 && not (holdsKey (f i) (tabulate i f)))
+  pub keys-all : (n : ℕ) → (keysLawful (tabulate n f) && distinct (tabulate n f)) ≡ allBelow n (λ i. ltb (f i) 64 && not (has (tabulate i f) (f i)))
   unfolding keysLawful distinct
   keys-all n =
-      counted (λ ks. keysLawful ks && distinct ks) (λ i. ltb (f i) 64 && not (holdsKey (f i) (tabulate i f))) refl
+      counted (λ ks. keysLawful ks && distinct ks) (λ i. ltb (f i) 64 && not (has (tabulate i f) (f i))) refl
       (λ m.
       rw (keysLawful-snoc (tabulate m f) (f m), distinct-snoc (tabulate m f) (f m))
-      (and-swap (keysLawful (tabulate m f)) (ltb (f m) 64) (distinct (tabulate m f)) (not (holdsKey (f m) (tabulate m f)))))
+      (and-swap (keysLawful (tabulate m f)) (ltb (f m) 64) (distinct (tabulate m f)) (not (has (tabulate m f) (f m)))))
       n
 
 -- ---- a session's page

@@ -1,7 +1,7 @@
 -- What is lawful of the setup's constants (R20), a page (R22) and a session (R21). Times, vectors, records and messages are in crate record.
 use Prim.Native.Nat.{ℕ}
 use mathlib.Core.Bool.{Bool, not, _&&_, _||_}
-use mathlib.Core.List.{List, [], _∷_}
+use mathlib.Core.List.{List, map}
 use lib.Dec.{leb, ltb}
 use lib.ListN.{length}
 use Rattle.protocol.specs.Record.{Setting}
@@ -14,8 +14,7 @@ unfoldable pub settingLawful : Setting → Bool
 settingLawful c = (ltb 0 (c .sites) && leb (c .sites) 4) && (ltb 0 (c .partitions) && leb (c .partitions) 4)
 
 unfoldable pub keysOf : List Mark → List ℕ
-keysOf [] = []
-keysOf (m ∷ ms) = m .key ∷ keysOf ms
+keysOf ms = map (λ m. m .key) ms
 
 -- R21, R22: an open page has 1 to 8 different keys, each 0 to 63
 unfoldable pub pageLawful : Setting → Page → Bool

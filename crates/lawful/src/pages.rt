@@ -6,12 +6,13 @@ ghost use lib.Dec.{ltb, eqb};
 ghost use lib.ListN.{length};
 ghost use Rattle.codec.specs.Le.{load};
 ghost use Rattle.codec.specs.Tabulate.{tabulate};
-ghost use Rattle.protocol.specs.Needs.{keysLawful, holdsKey, distinct};
+ghost use Rattle.codec.specs.Lists.{has};
+ghost use Rattle.protocol.specs.Needs.{keysLawful, distinct};
 
 // The key k is one of the n from `at`.
 fn holds_key(b: &[u8], at: usize, n: usize, k: u8) -> bool
     requires { ⌜ at + n ≤ length (now b) ⌝ }
-    ensures { λ r. ⌜ r ≡ holdsKey k (tabulate n (λ i. load 1 (now (b .entry)) (at + i))) ⌝ }
+    ensures { λ r. ⌜ r ≡ has (tabulate n (λ i. load 1 (now (b .entry)) (at + i))) k ⌝ }
 {
     let mut i = 0;
     while i < n {

@@ -3,14 +3,15 @@
 ghost use mathlib.Core.Path.{_≡_};
 ghost use mathlib.Core.List.{List};
 ghost use Prim.Native.Nat.{ℕ, _≤_};
-ghost use Rattle.protocol.specs.Needs.{holdsKey, distinct, awaited, allRead};
+ghost use Rattle.codec.specs.Lists.{has};
+ghost use Rattle.protocol.specs.Needs.{distinct, awaited, allRead};
 ghost use Rattle.protocol.specs.Serve.{markRead};
 ghost use Rattle.outcome.specs.Marks.{keysOn, marksOn, keysFrom};
 
 // Whether one of the keys from place `from` on is k.
 fn holds(keys: [u8; 8], count: usize, from: usize, k: u8) -> bool
     requires { ⌜ (count ≤ 8) × (from ≤ count) ⌝ }
-    ensures { λ r. ⌜ r ≡ holdsKey k (keysFrom keys from count) ⌝ }
+    ensures { λ r. ⌜ r ≡ has (keysFrom keys from count) k ⌝ }
 {
     let mut any = false;
     let mut i = count;

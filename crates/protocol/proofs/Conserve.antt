@@ -1,23 +1,23 @@
 -- Conservation: each event keeps the balance of each channel, and so does any list of events.
 use Prim.Native.Nat.{ℕ, _+_, _<_}
 use native.Mathlib.Omega.{arith}
-use mathlib.Core.Path.{_≡_, refl, sym, _∙_}
+use mathlib.Core.Path.{_≡_, refl, sym, subst, _∙_}
 use mathlib.Core.Logic.{_≢_}
 use mathlib.Core.Bool.{Bool, true, false, cond, not, _&&_}
 use mathlib.Core.List.{List, [], _∷_, _++_, tail}
 use lib.Dec.{T, ltb, eqb, lt→ltb}
 use mir.Facts.{and-yes, eqb-yes}
 use Rattle.codec.proofs.Tests.{cond-elim}
-use Rattle.protocol.specs.Record.{partitionOf, Rec, Msg, Update, Heartbeat}
+use Rattle.protocol.specs.Record.{Setting, partitionOf, Id, Rec, Msg, Update, Heartbeat}
 use Rattle.protocol.specs.State.{Net, State, setup}
-use Rattle.protocol.specs.Event.{Event, OPEN, CLOSE, CLOCK, GET, PUT, BEGIN, READ, END, BEAT, DELIVER, Answer, Refusal, Refused}
-use Rattle.protocol.specs.View.{view}
+use Rattle.protocol.specs.Event.{Event, OPEN, CLOSE, CLOCK, GET, PUT, BEGIN, READ, END, BEAT, DELIVER, Refusal, Refused}
+use Rattle.protocol.specs.View.{place, view}
 use Rattle.protocol.specs.Needs.{beatSends, frontUpdates}
 use Rattle.protocol.specs.Change.{Change, at, setClock, publish, receive, apply, applyAll}
 use Rattle.protocol.specs.Serve.{Outcome, _and_, written, taken, serve}
-use Rattle.protocol.specs.Step.{step, next, after}
-use Rattle.protocol.specs.Past.{served}
-use Rattle.protocol.specs.Count.{waiting, puts, takenAt, delivers, count}
+use Rattle.protocol.specs.Step.{step, next, after, log}
+use Rattle.protocol.specs.Past.{Entry, History, served, tell, wrote, noteServed, note, start, retell, history}
+use Rattle.protocol.specs.Count.{waiting, writtenAt, takenAt, delivered}
 use Rattle.protocol.specs.Promises.{Conserved}
 use Rattle.protocol.proofs.Judge.{step-elim}
 use Rattle.protocol.proofs.Setting.{next-setting}
@@ -42,13 +42,12 @@ unfolding waiting frontUpdates
 waiting-front (Update r) l = omega arith
 waiting-front (Heartbeat t) l = omega arith
 
--- ---- one event
+-- ---- one event: what waits and what is taken off, with what was written before, is what waited before with what is written now
 
-abbrev one : (Net → Event → Answer → Bool) → Net → Event → Answer → ℕ
-one kind N e a = cond (served a && kind N e a) 1 0
-
-abbrev Balance : State → (i m p : ℕ) → Event → Outcome → Type 0
-Balance S i m p e o = waiting (applyAll (o .changes) S .net .chan i m p) + one (delivers i m p) (S .net) e (o .says) ≡ waiting (S .net .chan i m p) + one (puts i p) (S .net) e (o .says)
+abbrev Balance : State → History → (i m p : ℕ) → Event → Outcome → Type 0
+Balance S h i m p e o =
+    waiting (applyAll (o .changes) S .net .chan i m p) + cond (served (o .says) && takenAt i m p (S .net) (place e)) 1 0 + writtenAt (S .net .setting) i p (h .writes)
+    ≡ waiting (S .net .chan i m p) + writtenAt (S .net .setting) i p (note h e (o .says) .writes)
 
 module _ (i m p : ℕ) (apart : i ≢ m) where
   put-balance : (N : Net) (r : Rec) → m < N .setting .sites →
@@ -93,38 +92,55 @@ module _ (i m p : ℕ) (apart : i ≢ m) where
       go true f = rw (f tt) (let z = waiting-front x l in omega arith)
       go false f = refl
 
-  serve-balance : (S : State) (e : Event) → m < S .net .setting .sites → Balance S i m p e (serve (view S e) e)
-  unfolding serve apply applyAll setClock puts delivers takenAt served written
-  serve-balance S (OPEN s j) l = refl
-  serve-balance S (CLOSE s) l = refl
-  serve-balance S (CLOCK j q t) l = refl
-  serve-balance S (GET s k) l = refl
-  serve-balance S (PUT s k q v) l = put-balance (S .net) (written (S .session s) k q v (S .net .clock (S .session s .site) (partitionOf (S .net .setting) k))) l
-  serve-balance S (BEGIN s q ks) l = refl
-  serve-balance S (READ s k) l = refl
-  serve-balance S (END s) l = refl
-  serve-balance S (BEAT j q) l = cond-elim (λ (cs : List Change). waiting (applyAll cs S .net .chan i m p) + 0 ≡ waiting (S .net .chan i m p) + 0) (beatSends (S .net .heard j q j) (S .net .clock j q))
-      (λ t. let z = beat-balance (S .net) j q (S .net .clock j q) in omega arith) (λ t. refl)
-  serve-balance S (DELIVER h j q) l = take-balance S h j q (S .net .chan h j q) refl
+  -- a read, served or not, writes nothing
+  read-balance : (n : ℕ) (c : Setting) (h : History) (s : ℕ) (ys : List Id) (es : List Entry) (b : Bool) →
+      n + cond (b && false) 1 0 + writtenAt c i p (h .writes) ≡ n + writtenAt c i p (cond b (tell h s ys es) h .writes)
+  unfolding tell
+  read-balance n c h s ys es true = omega arith
+  read-balance n c h s ys es false = omega arith
 
-  refused-balance : (S : State) (e : Event) (w : Refusal) → Balance S i m p e (Refused w and [])
-  unfolding served applyAll
-  refused-balance S e w = refl
+  serve-balance : (S : State) (h : History) (e : Event) → m < S .net .setting .sites → Balance S h i m p e (serve (view S e) e)
+  unfolding serve apply applyAll setClock takenAt served written note noteServed tell wrote writtenAt
+  serve-balance S h (OPEN s j) l = omega arith
+  serve-balance S h (CLOSE s) l = omega arith
+  serve-balance S h (CLOCK j q t) l = omega arith
+  serve-balance S h (GET s k) l = read-balance (waiting (S .net .chan i m p)) (S .net .setting) h s _ _ (served (serve (view S (GET s k)) (GET s k) .says))
+  serve-balance S h (PUT s k q v) l =
+      let z = put-balance (S .net) (written (S .session s) k q v (S .net .clock (S .session s .site) (partitionOf (S .net .setting) k))) l in
+      omega arith
+  serve-balance S h (BEGIN s q ks) l = omega arith
+  serve-balance S h (READ s k) l = read-balance (waiting (S .net .chan i m p)) (S .net .setting) h s _ _ (served (serve (view S (READ s k)) (READ s k) .says))
+  serve-balance S h (END s) l = omega arith
+  serve-balance S h (BEAT j q) l = cond-elim
+      (λ (cs : List Change). waiting (applyAll cs S .net .chan i m p) + 0 + writtenAt (S .net .setting) i p (h .writes) ≡ waiting (S .net .chan i m p) + writtenAt (S .net .setting) i p (h .writes))
+      (beatSends (S .net .heard j q j) (S .net .clock j q)) (λ t. let z = beat-balance (S .net) j q (S .net .clock j q) in omega arith) (λ t. omega arith)
+  serve-balance S h (DELIVER g j q) l = let z = take-balance S g j q (S .net .chan g j q) refl in omega arith
 
-  step-balance : (S : State) (e : Event) → m < S .net .setting .sites → Balance S i m p e (step S e)
-  step-balance S e l = step-elim S e (Balance S i m p e) (refused-balance S e) (λ r t. serve-balance S e l)
+  refused-balance : (S : State) (h : History) (e : Event) (w : Refusal) → Balance S h i m p e (Refused w and [])
+  unfolding served applyAll note
+  refused-balance S h e w = omega arith
+
+  step-balance : (S : State) (h : History) (e : Event) → m < S .net .setting .sites →
+      waiting (next S e .net .chan i m p) + cond (served (step S e .says) && takenAt i m p (S .net) (place e)) 1 0 + writtenAt (S .net .setting) i p (h .writes)
+      ≡ waiting (S .net .chan i m p) + writtenAt (S .net .setting) i p (note h e (step S e .says) .writes)
+  unfolding next
+  step-balance S h e l = step-elim S e (Balance S h i m p e) (refused-balance S h e) (λ r t. serve-balance S h e l)
 
   -- ---- many
 
-  run-balance : (S : State) (es : List Event) → m < S .net .setting .sites →
-      waiting (after S es .net .chan i m p) + count (delivers i m p) S es ≡ waiting (S .net .chan i m p) + count (puts i p) S es
-  unfolding after count next
-  run-balance S [] l = refl
-  run-balance S (e ∷ es) l =
-      let a = step-balance S e l in
-      let b = run-balance (next S e) es (rw (next-setting S e) l) in
+  run-balance : (S : State) (h : History) (es : List Event) → m < S .net .setting .sites →
+      waiting (after S es .net .chan i m p) + delivered i m p S es + writtenAt (S .net .setting) i p (h .writes)
+      ≡ waiting (S .net .chan i m p) + writtenAt (S .net .setting) i p (retell h (log S es) .writes)
+  unfolding after delivered log retell
+  run-balance S h [] l = omega arith
+  run-balance S h (e ∷ es) l =
+      let a = step-balance S h e l in
+      let g = note h e (step S e .says) in
+      let b = subst
+      (λ c. waiting (after (next S e) es .net .chan i m p) + delivered i m p (next S e) es + writtenAt c i p (g .writes) ≡ waiting (next S e .net .chan i m p) + writtenAt c i p (retell g (log (next S e) es) .writes))
+      (next-setting S e) (run-balance (next S e) g es (rw (next-setting S e) l)) in
       omega arith
 
 pub conserved : Conserved
-unfolding setup waiting
-conserved c es i m p d l = let a = run-balance i m p d (setup c) es l in omega arith
+unfolding setup waiting history start writtenAt
+conserved c es i m p d l = let a = run-balance i m p d (setup c) start es l in omega arith

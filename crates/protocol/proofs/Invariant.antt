@@ -11,7 +11,7 @@ use Rattle.vector.specs.Vec.{Vec, width}
 use Rattle.vector.proofs.Vec.{LeV}
 use Rattle.protocol.specs.Record.{partitionOf, Id, Rec, Msg, Update, stampIn}
 use Rattle.protocol.specs.State.{Net, Session, State}
-use Rattle.protocol.specs.Event.{Answer, qualityOf, levelOf}
+use Rattle.protocol.specs.Event.{Answer, valuesOf}
 use Rattle.protocol.specs.Past.{_∈_, Write, Entry, Story, History, shownIn}
 use Rattle.protocol.specs.Causal.{Covers}
 
@@ -100,7 +100,7 @@ AllBelow W v xs = (x : Id) → x ∈ xs → Below W v x
 
 -- what an answer shows is a record that was written
 unfoldable pub Shows : List Rec → ℕ → Answer → Type 0
-Shows W k a = (y : Id) → y ∈ shownIn k a → (r : Rec) × (r ∈ W) × (r .id ≡ y) × (r .quality ≡ qualityOf a) × (r .level ≡ levelOf a)
+Shows W k a = (y : Id) → y ∈ shownIn k a → (r : Rec) × (r ∈ W) × (r .id ≡ y) × (r .quality ≡ valuesOf a .quality) × (r .level ≡ valuesOf a .level)
 
 -- a served READ: the nodes that write its key are past the page's vector, what is up to the page's vector is covered, and what is shown
 -- carries at most the page's vector and is gathered

@@ -1,17 +1,20 @@
 -- What is decided of each event whose fields are in range, as a ladder of tests from top to bottom: `judged` is opened here, and the crates above
 -- use these laws. In order: events of a session, then of a site, then DELIVER.
 use Prim.Native.Nat.{ℕ}
+use native.Mathlib.Omega.{arith}
 use mathlib.Core.Path.{_≡_, refl}
 use mathlib.Core.Bool.{Bool, true, false, cond, not, _&&_, _||_}
 use mathlib.Core.List.{List, [], _∷_}
 use lib.Dec.{leb}
+use lib.ListN.{length}
 use lib.IntN.{ℤ}
+use borrow.Author.Tests.{lt-ltb}
 use Rattle.vector.specs.Vec.{larger, withEntry}
 use Rattle.protocol.specs.Record.{partitionOf, Msg, Update, Heartbeat, newest, ofKey, fitsPage, raisedBy}
 use Rattle.protocol.specs.State.{Session, noPage, closed, opened, withVec, withPage}
 use Rattle.protocol.specs.Event.{OPEN, CLOSE, CLOCK, GET, PUT, BEGIN, READ, END, BEAT, DELIVER, Answer, Done, Stamped, Refused, plain, shown}
 use Rattle.protocol.specs.View.{View}
-use Rattle.protocol.specs.Needs.{getReady, putReady, readReady, beatSends, storeRoom, sendRoom, isEmpty, frontUpdates, distinct, awaited, allRead, needs}
+use Rattle.protocol.specs.Needs.{getReady, putReady, readReady, beatSends, storeRoom, sendRoom, frontUpdates, distinct, awaited, allRead, needs}
 use Rattle.protocol.specs.Change.{Change, SetSession, SetClock, Publish, Receive}
 use Rattle.protocol.specs.Serve.{Outcome, _and_, written, begun, readOn, taken, serve}
 use Rattle.protocol.specs.Step.{judge, judged}
@@ -129,13 +132,13 @@ module _ (v : View) where
   -- ---- DELIVER, by the channel's messages
 
   pub deliver-none : (i m p : ℕ) → v .front ≡ [] → judged v (DELIVER i m p) ≡ refuse 20
-  unfolding judged judge needs serve isEmpty
+  unfolding judged judge needs serve
   deliver-none i m p e = rw e
 
   pub deliver-first : (i m p : ℕ) (y : Msg) (l : List Msg) → v .front ≡ y ∷ l →
       judged v (DELIVER i m p) ≡ cond (frontUpdates (y ∷ []) && not (storeRoom (v .store p))) (refuse 22) (Done and Receive i m p y ∷ [])
-  unfolding judged judge needs serve isEmpty
-  deliver-first i m p y l e = rw e (go y (storeRoom (v .store p)))
+  unfolding judged judge needs serve
+  deliver-first i m p y l e = rw (e, lt-ltb 0 (length (y ∷ l)) (omega arith)) (go y (storeRoom (v .store p)))
     where
       go : (y : Msg) (b : Bool) → cond (not (frontUpdates (y ∷ l)) || b) (Done and taken i m p (y ∷ l)) (refuse 22) ≡ cond (frontUpdates (y ∷ []) && not b) (refuse 22) (Done and Receive i m p y ∷ [])
       go (Update r) true = unfold frontUpdates taken in refl

@@ -5,7 +5,7 @@ use native.Mathlib.Omega.{arith}
 use mathlib.Core.Path.{_≡_, refl, sym, ap, subst, _∙_}
 use mathlib.Core.Logic.{_⊎_, inl, inr}
 use mathlib.Core.Bool.{Bool, true, false, cond, not, _&&_}
-use mathlib.Core.List.{List, [], _∷_, _++_, List·Memᴰ·head, List·Memᴰ·tail, List·Memᴰ·cases-cons, List·Memᴰ·not-nil, List·Memᴰ·append-cases, List·Memᴰ·eq-of-singleton}
+use mathlib.Core.List.{List, [], _∷_, _++_, flatMap, List·Memᴰ·head, List·Memᴰ·tail, List·Memᴰ·cases-cons, List·Memᴰ·not-nil, List·Memᴰ·append-cases, List·Memᴰ·eq-of-singleton}
 use mathlib.Core.Option.{Option, some, none}
 use lib.Dec.{T, eqb}
 use mir.Facts.{T-not, and-yes, yes-and, eqb-yes}
@@ -92,7 +92,7 @@ module _ (N : Net) (W : List Rec) (I : NetInv N W) where
       here k e = rw (I .once r (k .rec) n (k .mem) (sym (k .same ∙ e))) (k .past)
 
   pasts-below : (ws : List Write) → ((w : Write) → w ∈ ws → WriteInv W w) → (v : Vec) (ys : List Id) → AllBelow W v ys → AllBelow W v (withPasts ws ys)
-  unfolding withPasts AllBelow
+  unfolding withPasts flatMap AllBelow
   pasts-below ws h v [] b = all-nil W v
   pasts-below ws h v (y ∷ ys) b =
       let c = b y (List·Memᴰ·head refl) in
@@ -315,7 +315,7 @@ module _ (N : Net) (W : List Rec) (I : NetInv N W) (h : Story) (x : Session) (S 
 
   -- END
   gathered-below : (es : List Entry) → ((e : Entry) → e ∈ es → EntryInv N W x e) → AllBelow W (x .page .gathered) (shownOn es)
-  unfolding shownOn AllBelow
+  unfolding shownOn flatMap AllBelow
   gathered-below [] E y m = absurd (List·Memᴰ·not-nil m)
   gathered-below (e ∷ es) E y m = go (gathered-below es (λ d n. E d (List·Memᴰ·tail n)) y) (List·Memᴰ·append-cases (shownIn (e .key) (e .says)) m)
     where

@@ -3,7 +3,7 @@
 use Prim.Native.Nat.{ℕ}
 use mathlib.Core.Path.{_≡_, refl, ap, subst}
 use mathlib.Core.Bool.{Bool, not, _&&_}
-use mathlib.Core.List.{List, [], _∷_, _++_, List·Memᴰ·head, List·Memᴰ·tail, List·Memᴰ·eq-of-singleton, List·Memᴰ·not-nil}
+use mathlib.Core.List.{List, [], _∷_, _++_, flatMap, List·Memᴰ·head, List·Memᴰ·tail, List·Memᴰ·eq-of-singleton, List·Memᴰ·not-nil}
 use mathlib.Core.Option.{Option, some, none}
 use lib.Dec.{leb, ltb}
 use lib.IntN.{pos}
@@ -88,7 +88,7 @@ unfoldable four : Setting
 four = record { sites = 4; partitions = 4 }
 
 unfoldable past : Unit {0}
-unfolding computing ours carrying judgedBy decideBy logBy four served shownIn shownOn sameId writerPast withPasts tell wrote noteServed note start retell history NoOlder Covers CoversAll
+unfolding computing ours carrying judgedBy decideBy logBy four served shownIn shownOn sameId writerPast withPasts flatMap tell wrote noteServed note start retell history NoOlder Covers CoversAll
 past = tt
 
 abbrev named : (key source stamp : ℕ) → Id

@@ -5,7 +5,7 @@ use mathlib.Core.Bool.{not}
 use mathlib.Core.List.{List}
 use lib.Dec.{T}
 use Rattle.protocol.specs.Record.{Setting, Id, newer}
-use Rattle.protocol.specs.Event.{Answer, qualityOf, levelOf}
+use Rattle.protocol.specs.Event.{Answer, valuesOf}
 use Rattle.protocol.specs.Past.{_∈_, Write, Entry, History, served, shownIn, writerPast}
 
 -- y is no older than x
@@ -22,7 +22,7 @@ CoversAll c k a xs = (x : Id) → x ∈ xs → x .key ≡ k → Covers c k a x
 
 -- R83: what the answer shows was written, with that quality and level
 unfoldable pub Genuine : List Write → ℕ → Answer → Type 0
-Genuine ws k a = (y : Id) → y ∈ shownIn k a → (w : Write) × (w ∈ ws) × (w .id ≡ y) × (w .quality ≡ qualityOf a) × (w .level ≡ levelOf a)
+Genuine ws k a = (y : Id) → y ∈ shownIn k a → (w : Write) × (w ∈ ws) × (w .id ≡ y) × (w .quality ≡ valuesOf a .quality) × (w .level ≡ valuesOf a .level)
 
 -- a GET of key k by session s, answered a after what h tells
 pub record GetCausal (c : Setting) (h : History) (s k : ℕ) (a : Answer) : Type 0 where

@@ -1,16 +1,16 @@
--- What is conserved (R74): the updates of a channel, counted over the events and their answers.
+-- What is conserved (R74): the updates of a channel, counted over what was written and over the events that took one off.
 use Prim.Native.Nat.{ℕ, suc, _+_}
 use mathlib.Core.Bool.{Bool, false, cond, _&&_}
 use mathlib.Core.List.{List, [], _∷_}
 use lib.Dec.{eqb}
-use Rattle.protocol.specs.Record.{partitionOf, Msg, Update, Heartbeat}
+use Rattle.protocol.specs.Record.{Setting, partitionOf, Msg, Update, Heartbeat}
 use Rattle.protocol.specs.State.{Net, State}
-use Rattle.protocol.specs.Event.{Event, OPEN, CLOSE, CLOCK, GET, PUT, BEGIN, READ, END, BEAT, DELIVER, Answer, sourceOf}
+use Rattle.protocol.specs.Event.{Event}
 use Rattle.protocol.specs.View.{Place, ofSession, atSite, onChannel, place}
 use Rattle.protocol.specs.Needs.{frontUpdates}
 use Rattle.protocol.specs.Change.{at}
 use Rattle.protocol.specs.Step.{step, next}
-use Rattle.protocol.specs.Past.{served}
+use Rattle.protocol.specs.Past.{Write, served}
 
 -- the updates waiting in a channel
 unfoldable pub waiting : List Msg → ℕ
@@ -18,18 +18,10 @@ waiting [] = 0
 waiting (Update r ∷ l) = suc (waiting l)
 waiting (Heartbeat t ∷ l) = waiting l
 
--- a PUT at node (i, p)
-unfoldable pub puts : (i p : ℕ) → Net → Event → Answer → Bool
-puts i p N (OPEN s m) a = false
-puts i p N (CLOSE s) a = false
-puts i p N (CLOCK m q t) a = false
-puts i p N (GET s k) a = false
-puts i p N (PUT s k q l) a = at (sourceOf a) (partitionOf (N .setting) k) i p
-puts i p N (BEGIN s q ks) a = false
-puts i p N (READ s k) a = false
-puts i p N (END s) a = false
-puts i p N (BEAT m q) a = false
-puts i p N (DELIVER h m q) a = false
+-- how many of the writes were made at node (i, p)
+unfoldable pub writtenAt : Setting → (i p : ℕ) → List Write → ℕ
+writtenAt c i p [] = 0
+writtenAt c i p (w ∷ ws) = cond (at (w .id .source) (partitionOf c (w .id .key)) i p) 1 0 + writtenAt c i p ws
 
 -- a DELIVER of an update from site i to node (m, p): no other event is on a channel
 unfoldable pub takenAt : (i m p : ℕ) → Net → Place → Bool
@@ -37,10 +29,7 @@ takenAt i m p N (ofSession s) = false
 takenAt i m p N (atSite j) = false
 takenAt i m p N (onChannel h j q) = (at j q m p && eqb i h) && frontUpdates (N .chan h j q)
 
-unfoldable pub delivers : (i m p : ℕ) → Net → Event → Answer → Bool
-delivers i m p N e a = takenAt i m p N (place e)
-
--- how many of the events are served and of the kind
-unfoldable pub count : (Net → Event → Answer → Bool) → State → List Event → ℕ
-count kind S [] = 0
-count kind S (e ∷ es) = let a = step S e .says in cond (served a && kind (S .net) e a) 1 0 + count kind (next S e) es
+-- how many of the events were served and did that
+unfoldable pub delivered : (i m p : ℕ) → State → List Event → ℕ
+delivered i m p S [] = 0
+delivered i m p S (e ∷ es) = cond (served (step S e .says) && takenAt i m p (S .net) (place e)) 1 0 + delivered i m p (next S e) es

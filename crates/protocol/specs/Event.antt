@@ -44,15 +44,3 @@ valuesOf (Refused w) = five (w .number) (w .source) 0 (pos 0) (w .stamp)
 
 abbrev pub numberOf : Answer → ℕ
 numberOf a = valuesOf a .number
-
-abbrev pub sourceOf : Answer → ℕ
-sourceOf a = valuesOf a .source
-
-abbrev pub qualityOf : Answer → ℕ
-qualityOf a = valuesOf a .quality
-
-abbrev pub levelOf : Answer → ℤ
-levelOf a = valuesOf a .level
-
-abbrev pub stampOf : Answer → ℕ
-stampOf a = valuesOf a .stamp

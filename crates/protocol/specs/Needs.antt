@@ -7,6 +7,7 @@ use lib.ListN.{length}
 use lib.Dec.{leb, ltb, eqb}
 use lib.IntN.{ℤ, pos, negsuc}
 use Rattle.codec.specs.Below.{allBelow}
+use Rattle.codec.specs.Lists.{has}
 use Rattle.vector.specs.Vec.{Vec, atMost, atMostBut, largest}
 use Rattle.protocol.specs.Record.{Setting, partitionOf, Rec, Msg, Update, Heartbeat}
 use Rattle.protocol.specs.Times.{timeLimit}
@@ -71,22 +72,14 @@ storeRoom l = ltb (length l) 32
 unfoldable pub sendRoom : View → (m p : ℕ) → Bool
 sendRoom v m p = allBelow (v .setting .sites) (λ j. eqb j m || ltb (v .sent p j) 8)
 
-unfoldable pub isEmpty : List Msg → Bool
-isEmpty [] = true
-isEmpty (x ∷ l) = false
-
 unfoldable pub frontUpdates : List Msg → Bool
 frontUpdates [] = false
 frontUpdates (Update r ∷ l) = true
 frontUpdates (Heartbeat t ∷ l) = false
 
-unfoldable pub holdsKey : ℕ → List ℕ → Bool
-holdsKey k [] = false
-holdsKey k (j ∷ ks) = eqb j k || holdsKey k ks
-
 unfoldable pub distinct : List ℕ → Bool
 distinct [] = true
-distinct (k ∷ ks) = not (holdsKey k ks) && distinct ks
+distinct (k ∷ ks) = not (has ks k) && distinct ks
 
 -- k is on the page and not read yet
 unfoldable pub awaited : ℕ → List Mark → Bool
@@ -134,5 +127,5 @@ needs v (END s) =
     allRead (x .page .marks) else 18 ∷ []
 needs v (BEAT m p) = (not (beatSends (v .heard p m) (v .clock p)) || sendRoom v m p) else 21 ∷ []
 needs v (DELIVER i m p) =
-    not (isEmpty (v .front)) else 20 ∷
+    ltb 0 (length (v .front)) else 20 ∷
     (not (frontUpdates (v .front)) || storeRoom (v .store p)) else 22 ∷ []

@@ -1,11 +1,11 @@
 -- A session's past (R81), worked out from the events and their answers alone: `history` never sees a state.
 use Prim.Native.Nat.{ℕ}
 use mathlib.Core.Bool.{Bool, true, false, cond, _&&_}
-use mathlib.Core.List.{List, [], _∷_, _++_, List·Memᴰ}
+use mathlib.Core.List.{List, [], _∷_, _++_, flatMap, List·Memᴰ}
 use lib.Dec.{eqb}
 use lib.IntN.{ℤ}
 use Rattle.protocol.specs.Record.{Id}
-use Rattle.protocol.specs.Event.{Event, OPEN, CLOSE, CLOCK, GET, PUT, BEGIN, READ, END, BEAT, DELIVER, Answer, Done, Stamped, Value, Nothing, Refused, sourceOf, stampOf}
+use Rattle.protocol.specs.Event.{Event, OPEN, CLOSE, CLOCK, GET, PUT, BEGIN, READ, END, BEAT, DELIVER, Answer, Done, Stamped, Value, Nothing, Refused, valuesOf}
 use Rattle.protocol.specs.Change.{upd}
 use Rattle.protocol.specs.Step.{Line}
 
@@ -51,8 +51,7 @@ shownIn k Nothing = []
 shownIn k (Refused w) = []
 
 unfoldable pub shownOn : List Entry → List Id
-shownOn [] = []
-shownOn (e ∷ es) = shownIn (e .key) (e .says) ++ shownOn es
+shownOn es = flatMap (λ e. shownIn (e .key) (e .says)) es
 
 unfoldable pub sameId : Id → Id → Bool
 sameId x y = eqb (x .key) (y .key) && (eqb (x .source) (y .source) && eqb (x .stamp) (y .stamp))
@@ -64,8 +63,7 @@ writerPast (w ∷ ws) y = cond (sameId (w .id) y) (w .past ++ writerPast ws y) (
 
 -- records, each with its writer's past
 unfoldable pub withPasts : List Write → List Id → List Id
-withPasts ws [] = []
-withPasts ws (y ∷ ys) = y ∷ (writerPast ws y ++ withPasts ws ys)
+withPasts ws ys = flatMap (λ y. y ∷ writerPast ws y) ys
 
 -- ---- one event and its answer
 
@@ -83,7 +81,7 @@ noteServed h (OPEN s m) a = tell h s [] []
 noteServed h (CLOSE s) a = tell h s [] []
 noteServed h (CLOCK m p t) a = h
 noteServed h (GET s k) a = tell h s (withPasts (h .writes) (shownIn k a) ++ h .of s .past) (h .of s .page)
-noteServed h (PUT s k q l) a = wrote h s (record { key = k; source = sourceOf a; stamp = stampOf a }) q l
+noteServed h (PUT s k q l) a = wrote h s (record { key = k; source = valuesOf a .source; stamp = valuesOf a .stamp }) q l
 noteServed h (BEGIN s p ks) a = tell h s (h .of s .past) []
 noteServed h (READ s k) a = tell h s (h .of s .past) (record { key = k; says = a } ∷ h .of s .page)
 noteServed h (END s) a = tell h s (withPasts (h .writes) (shownOn (h .of s .page)) ++ h .of s .past) []

@@ -13,7 +13,7 @@ use Rattle.protocol.specs.View.{Place, ofSession, atSite, onChannel, pla
 use Rattle.protocol.specs.Step.{step, next, after, log}
 use Rattle.protocol.specs.Past.{history}
 use Rattle.protocol.specs.Causal.{GetCausal, PageCausal}
-use Rattle.protocol.specs.Count.{waiting, puts, delivers, count}
+use Rattle.protocol.specs.Count.{waiting, writtenAt, delivered}
 
 -- DEMAND 3, after any events: of a GET that comes next, and of every page as far as it has come
 abbrev pub CausalGet : Type 0
@@ -23,10 +23,10 @@ CausalGet = (c : Setting) → c .sites ≤ width → (es : List Event) (s k : �
 abbrev pub CausalPage : Type 0
 CausalPage = (c : Setting) → c .sites ≤ width → (es : List Event) (s : ℕ) → PageCausal c (history (log (setup c) es)) s
 
--- CONSERVATION on the channel from site i to site m at partition p: accepted at the sender are those delivered and those waiting
+-- CONSERVATION on the channel from site i to site m at partition p: what the events wrote at the sender is what was delivered and what waits
 abbrev pub Conserved : Type 0
 Conserved = (c : Setting) (es : List Event) (i m p : ℕ) → i ≢ m → m < c .sites →
-    count (puts i p) (setup c) es ≡ count (delivers i m p) (setup c) es + waiting (after (setup c) es .net .chan i m p)
+    writtenAt c i p (history (log (setup c) es) .writes) ≡ delivered i m p (setup c) es + waiting (after (setup c) es .net .chan i m p)
 
 -- INFLUENCE. p is one of the partitions. Every setup has one at least; were there none, a key k would be at k mod 0, which is k, and any number would do
 abbrev pub IsPartition : Setting → ℕ → Type 0

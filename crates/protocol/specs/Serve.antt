@@ -1,7 +1,7 @@
 -- What each event answers and changes where all that it needs holds (R41 to R50).
 use Prim.Native.Nat.{ℕ}
 use mathlib.Core.Bool.{true, false, cond, _||_}
-use mathlib.Core.List.{List, [], _∷_}
+use mathlib.Core.List.{List, [], _∷_, map}
 use mathlib.Core.Option.{Option}
 use lib.Dec.{eqb}
 use lib.IntN.{ℤ}
@@ -26,12 +26,10 @@ unfoldable pub written : Session → (k q : ℕ) (l : ℤ) (t : ℕ) → Rec
 written x k q l t = record { id = record { key = k; source = x .site; stamp = t }; quality = q; level = l; carried = x .vec }
 
 unfoldable pub unread : List ℕ → List Mark
-unread [] = []
-unread (k ∷ ks) = record { key = k; read = false } ∷ unread ks
+unread ks = map (λ k. record { key = k; read = false }) ks
 
 unfoldable pub markRead : ℕ → List Mark → List Mark
-markRead k [] = []
-markRead k (m ∷ ms) = record { key = m .key; read = m .read || eqb (m .key) k } ∷ markRead k ms
+markRead k ms = map (λ m. record { key = m .key; read = m .read || eqb (m .key) k }) ms
 
 -- R46: the coordinator is the node of the event's partition
 unfoldable pub begun : (coordinator session : Vec) → List ℕ → Page

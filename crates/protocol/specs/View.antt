@@ -37,15 +37,7 @@ pub record View : Type 0 where
   pub front : List Msg
 
 abbrev pub look : Net → Session → (m : ℕ) → List Msg → View
-look N x m l = record {
-  setting = N .setting;
-  session = x;
-  clock = N .clock m;
-  heard = N .heard m;
-  store = N .store m;
-  sent = λ p j. length (N .chan m j p);
-  front = l;
-}
+look N x m l = record { setting = N .setting; session = x; clock = N .clock m; heard = N .heard m; store = N .store m; sent = λ p j. length (N .chan m j p); front = l }
 
 abbrev pub viewAt : State → Place → View
 viewAt S (ofSession s) = look (S .net) (S .session s) (S .session s .site) []

@@ -7,14 +7,15 @@ use lib.ListN.{length}
 use Rattle.codec.specs.Le.{put}
 use Rattle.codec.specs.Level.{bitsOf}
 use Rattle.protocol.specs.declared.Answer.{Answer}
-use Rattle.protocol.specs.Event.{numberOf, sourceOf, qualityOf, levelOf, stampOf}
+use Rattle.protocol.specs.Event.{valuesOf}
 use Rattle.reader.specs.Pieces.{pieceOf}
 use Rattle.steps.specs.Step.{Called, refused, need, stepOn}
 
 -- an answer's 16 bytes: 0 number, 1 source, 2 quality, 3 zero, 4–7 level, 8–15 stamp
 unfoldable pub putAnswer : List ℕ → ℕ → Answer → List ℕ
 putAnswer b at a =
-    put 8 (put 4 (put 1 (put 1 (put 1 (put 1 b at (numberOf a)) (at + 1) (sourceOf a)) (at + 2) (qualityOf a)) (at + 3) 0) (at + 4) (bitsOf (levelOf a))) (at + 8) (stampOf a)
+    let v = valuesOf a in
+    put 8 (put 4 (put 1 (put 1 (put 1 (put 1 b at (v .number)) (at + 1) (v .source)) (at + 2) (v .quality)) (at + 3) 0) (at + 4) (bitsOf (v .level))) (at + 8) (v .stamp)
 
 pub record Ran : Type 0 where
   pub table : List ℕ

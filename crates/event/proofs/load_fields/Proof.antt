@@ -1,6 +1,5 @@
 -- `event::load_fields` meets its contract, by what each load ensures.
 use mir.Facts.{toZ-ofZ}
-use Rattle.event.specs.Event.{timeOf, levelIn}
 use Rattle.event.specs.Meaning.{fieldsIn}
 use Rattle.event.proofs.load_fields.Statement.{statement}
 use Rattle.event.proofs.load_fields.Tie as tie
@@ -40,7 +39,7 @@ load-eight-requires : tie.Need-load-eight-requires
 load-eight-requires c κs = search needs
 
 returns : tie.Need-returns
-unfolding fieldsIn timeOf levelIn
+unfolding fieldsIn
 returns c =
     let level = c .before in
     let count = level .before .before in

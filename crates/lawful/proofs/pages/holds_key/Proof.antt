@@ -8,7 +8,7 @@ use lib.Dec.{eqb}
 use Rattle.codec.specs.Le.{load}
 use Rattle.codec.specs.Below.{allBelow}
 use Rattle.codec.proofs.Below.{allBelow-none, allBelow-more, allBelow-fails}
-use Rattle.lawful.proofs.KeyTests.{holdsKey-all}
+use Rattle.lawful.proofs.KeyTests.{has-none}
 use Rattle.lawful.proofs.pages.holds_key.Statement.{statement}
 use Rattle.lawful.proofs.pages.holds_key.Tie as tie
 use borrow.Author.Needs.{needs}
@@ -32,7 +32,7 @@ returns : tie.Need-returns Inv-loop μ-loop
 returns c =
     let l = c .before .before .before in
     let same = sym (c .before .load-u8 .ensures) ∙ c .if1 .taken in
-    sym (not-false _ (holdsKey-all _ _ _ ∙ allBelow-fails _ _ (l .loop .i) (omega arith) (ap not (eq-eqb _ _ same))))
+    sym (not-false _ (has-none _ _ _ ∙ allBelow-fails _ _ (l .loop .i) (omega arith) (ap not (eq-eqb _ _ same))))
 
 add-i : tie.Need-add-i Inv-loop μ-loop
 add-i c = search needs
@@ -50,7 +50,7 @@ returns-2 : tie.Need-returns-2 Inv-loop μ-loop
 returns-2 c =
     let l = c .before in
     let e : l .loop .i ≡ l .before .before .args .n = omega arith in
-    sym (not-true _ (holdsKey-all _ _ _ ∙ rw e at (l .loop .inv .1)))
+    sym (not-true _ (has-none _ _ _ ∙ rw e at (l .loop .inv .1)))
 
 pub holds-key-spec : {M : Type 1} → statement M
 holds-key-spec =

@@ -9,14 +9,14 @@ use Rattle.codec.specs.Le.{load}
 use Rattle.codec.specs.Below.{allBelow}
 use Rattle.codec.specs.Tabulate.{tabulate}
 use Rattle.codec.proofs.Below.{allBelow-none, allBelow-more, allBelow-fails}
-use Rattle.protocol.specs.Needs.{holdsKey}
+use Rattle.codec.specs.Lists.{has}
 use Rattle.lawful.proofs.KeyTests.{keys-all}
 use Rattle.lawful.proofs.pages.keys_formed.Statement.{statement}
 use Rattle.lawful.proofs.pages.keys_formed.Tie as tie
 use borrow.Author.Needs.{needs}
 
 abbrev Inv-loop : tie.InvT-loop
-Inv-loop b at n i₀ i = (i ≤ n) × (allBelow i (λ k. ltb (load 1 b (at + k)) 64 && not (holdsKey (load 1 b (at + k)) (tabulate k (λ j. load 1 b (at + j))))) ≡ true)
+Inv-loop b at n i₀ i = (i ≤ n) × (allBelow i (λ k. ltb (load 1 b (at + k)) 64 && not (has (tabulate k (λ j. load 1 b (at + j))) (load 1 b (at + k)))) ≡ true)
 
 abbrev μ-loop : tie.MeasureT-loop
 μ-loop b at n i₀ i = n - i

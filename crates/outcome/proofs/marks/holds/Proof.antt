@@ -4,20 +4,19 @@ use Prim.Native.Nat.{_≤_}
 use native.Mathlib.Omega.{arith}
 use borrow.Author.Needs.{needs}
 use lib.ListN.{getD}
-use Rattle.protocol.specs.Needs.{holdsKey}
+use Rattle.codec.specs.Lists.{has}
 use Rattle.parts.proofs.Marks.{fromTo}
 use Rattle.outcome.proofs.Backward.{from-none, from-back}
 use Rattle.outcome.proofs.marks.holds.Statement.{statement}
 use Rattle.outcome.proofs.marks.holds.Tie as tie
 
 abbrev Inv-loop : tie.InvT-loop
-Inv-loop count from k keys any₀ i₀ any i = (from ≤ i) × (i ≤ count) × (any ≡ holdsKey k (fromTo i count (λ j. getD keys j 0)))
+Inv-loop count from k keys any₀ i₀ any i = (from ≤ i) × (i ≤ count) × (any ≡ has (fromTo i count (λ j. getD keys j 0)) k)
 
 abbrev μ-loop : tie.MeasureT-loop
 μ-loop count from k keys any₀ i₀ any i = i
 
 loop-holds : tie.Need-loop-holds Inv-loop μ-loop
-unfolding holdsKey
 loop-holds c = (omega arith, omega arith, rw from-none)
 
 sub-i : tie.Need-sub-i Inv-loop μ-loop
@@ -30,7 +29,6 @@ loop-less : tie.Need-loop-less Inv-loop μ-loop
 loop-less c = search needs
 
 loop-again : tie.Need-loop-again Inv-loop μ-loop
-unfolding holdsKey
 loop-again c =
     let l = c .before in
     (omega arith, omega arith, rw (l .loop .inv .2, from-back _ _ (l .loop .i) (omega arith) (l .loop .inv .1)))
