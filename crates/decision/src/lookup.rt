@@ -4,6 +4,7 @@ ghost use mathlib.Core.Bool.{true};
 ghost use Prim.Native.Nat.{_≤_, _<_};
 ghost use lib.Dec.{T};
 ghost use Rattle.vector.specs.Entries.{entry};
+ghost use Rattle.vector.specs.Meaning.{asVec};
 ghost use Rattle.protocol.specs.Record.{Setting, partitionOf, newest};
 ghost use Rattle.parts.specs.Node.{heardIn, storeIn};
 ghost use Rattle.parts.specs.Session.{sessionIn};
@@ -39,7 +40,7 @@ pub fn partition(t: &[u8], k: u8) -> u8
 // What the node of site m and partition p has heard.
 pub fn heard(t: &[u8], m: u8, p: u8) -> Vector
     requires { ⌜ Long (now t) × (m < 4) × (p < 4) ⌝ }
-    ensures { λ r. ⌜ entry (r .e) ≡ heardIn (nodeOf (siteOf (now (t .entry)) m) p) ⌝ }
+    ensures { λ r. ⌜ asVec r ≡ heardIn (nodeOf (siteOf (now (t .entry)) m) p) ⌝ }
 {
     nodes::heard(places::node(t, m, p))
 }
@@ -47,7 +48,7 @@ pub fn heard(t: &[u8], m: u8, p: u8) -> Vector
 // The newest record there that fits a read of the key: on a page, that of the page's vector.
 pub fn newest(t: &[u8], m: u8, p: u8, key: u8, paged: bool, page: Vector) -> Found
     requires { ⌜ Long (now t) × T (wellFormed (now t)) × (m < 4) × (p < 4) ⌝ }
-    ensures { λ r. ⌜ ((c : Setting) → foundOf r ≡ newest c (fitsRead paged key (entry (page .e))) (storeIn (nodeOf (siteOf (now (t .entry)) m) p))) × (r .reading .source < 4) ⌝ }
+    ensures { λ r. ⌜ ((c : Setting) → foundOf r ≡ newest c (fitsRead paged key (asVec page)) (storeIn (nodeOf (siteOf (now (t .entry)) m) p))) × (r .reading .source < 4) ⌝ }
 {
     search::newest(places::node(t, m, p), key, paged, page)
 }

@@ -55,7 +55,7 @@ pub fn read(t: &[u8], s: u8, k: u8) -> Decided
         return answers::refused(16);
     }
     let m = x.site;
-    let page = x.page;
+    let page = x.snapshot;
     let p = lookup::partition(t, k);
     if !page.at_most(lookup::heard(t, m, p)) {
         return answers::refused(3);

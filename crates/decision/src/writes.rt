@@ -6,6 +6,7 @@ ghost use lib.Dec.{T, ltb};
 ghost use Rattle.codec.specs.Le.{load};
 ghost use Rattle.codec.specs.Below.{allBelow};
 ghost use Rattle.vector.specs.Entries.{entry};
+ghost use Rattle.vector.specs.Meaning.{asVec};
 ghost use Rattle.protocol.specs.Event.{CLOCK, BEAT, PUT, DELIVER};
 ghost use Rattle.protocol.specs.Needs.{putReady};
 ghost use Rattle.parts.specs.Node.{clockIn, heardIn, heldIn};
@@ -30,7 +31,7 @@ fn own(t: &[u8], m: u8, p: u8) -> u64
     requires { ⌜ Long (now t) × (m < 4) × (p < 4) ⌝ }
     ensures { λ r. ⌜ r ≡ heardIn (nodeOf (siteOf (now (t .entry)) m) p) m ⌝ }
 {
-    let heard = lookup::heard(t, m, p).e;
+    let heard = lookup::heard(t, m, p).entries;
     heard[m as usize]
 }
 
@@ -96,7 +97,7 @@ pub fn beat(t: &[u8], m: u8, p: u8) -> Decided
 // R45: whether node (m, p) may stamp a record of a session with vector v. Its clock is greater than every entry of v and than its own entry.
 fn is_ready(t: &[u8], m: u8, p: u8, v: Vector) -> bool
     requires { ⌜ Long (now t) × (m < 4) × (p < 4) ⌝ }
-    ensures { λ r. ⌜ r ≡ putReady (entry (v .e)) (heardIn (nodeOf (siteOf (now (t .entry)) m) p) m) (clockIn (nodeOf (siteOf (now (t .entry)) m) p)) ⌝ }
+    ensures { λ r. ⌜ r ≡ putReady (asVec v) (heardIn (nodeOf (siteOf (now (t .entry)) m) p) m) (clockIn (nodeOf (siteOf (now (t .entry)) m) p)) ⌝ }
 {
     let time = nodes::clock(places::node(t, m, p));
     (v.largest() < time) & (own(t, m, p) < time)

@@ -22,7 +22,7 @@ use denote.Steps.{owned}
 use denote.Struct.Steps.{spelt}
 use denote.Struct.Laws as LL
 use Rattle.vector.specs.Vec.{raised}
-use Rattle.vector.specs.Entries.{entry}
+use Rattle.vector.specs.Meaning.{asVec}
 use Rattle.vector.specs.declared.Vector.{Vector}
 use Rattle.vector.proofs.Vector as E
 use Rattle.vector.proofs.Vector.Laws as E′
@@ -64,7 +64,7 @@ Ranges p = Is E.the-row (p .0) (vec (p .0) ∷ []) × ((p .1 .0 < 2 ^ 8) × (p .
 -- ---- what is ensured of the session afterwards
 
 abbrev pub Raised : Session → Beside → Session → Type 0
-Raised h p r = asSession r ≡ withVec (asSession h) (raised (asSession h .vec) (entry (p .0 .e)) (p .1 .0) (p .1 .1 .0))
+Raised h p r = asSession r ≡ withVec (asSession h) (raised (asSession h .vec) (asVec (p .0)) (p .1 .0) (p .1 .1 .0))
 
 module _ {M : Type 1} (𝓤 : URA M) (H : Heap 𝓤) (A : Atoms 𝓤) (W : Given 𝓤 H A) where
   pub typed : (h : Session) (v : Val) → Is R h (v ∷ []) → Holds (hasTy T′.mir v) × WT v

@@ -5,6 +5,7 @@ ghost use mathlib.Core.List.{[], _∷_};
 ghost use Prim.Native.Nat.{_<_};
 ghost use Rattle.vector.specs.Vec.{withEntry};
 ghost use Rattle.vector.specs.Entries.{entry};
+ghost use Rattle.vector.specs.Meaning.{asVec};
 ghost use Rattle.protocol.specs.Record.{Update, raisedBy};
 ghost use Rattle.protocol.specs.State.{withVec};
 ghost use Rattle.protocol.specs.Change.{Publish, Receive, SetSession};
@@ -45,7 +46,7 @@ pub fn shown(x: Found) -> Answer
 // The vector, raised by what a search gave: unchanged if nothing was found.
 pub fn raised_by(v: Vector, x: Found) -> Vector
     requires { ⌜ x .reading .source < 4 ⌝ }
-    ensures { λ r. ⌜ entry (r .e) ≡ raisedBy (entry (v .e)) (foundOf x) ⌝ }
+    ensures { λ r. ⌜ asVec r ≡ raisedBy (asVec v) (foundOf x) ⌝ }
 {
     if !x.found {
         return v;

@@ -1,7 +1,7 @@
 // Sessions as decisions leave them, by value. In order: closed and opened, another vector, and a page that is begun, read on and ended.
 ghost use mathlib.Core.Path.{_≡_};
 ghost use Prim.Native.Nat.{_≤_, _<_};
-ghost use Rattle.vector.specs.Entries.{entry};
+ghost use Rattle.vector.specs.Meaning.{asVec};
 ghost use Rattle.protocol.specs.State.{noPage, closed, opened, withVec, withPage};
 ghost use Rattle.protocol.specs.Serve.{begun, readOn};
 ghost use Rattle.parts.specs.Meaning.{asSession};
@@ -25,7 +25,7 @@ pub fn closed() -> Session
         count: 0,
         keys: [0; 8],
         marks: [false; 8],
-        page: zero,
+        snapshot: zero,
         gathered: zero,
     }
 }
@@ -42,7 +42,7 @@ pub fn opened(m: u8) -> Session
 
 // With another vector.
 pub fn with_vector(x: Session, vec: Vector) -> Session
-    ensures { λ r. ⌜ asSession r ≡ withVec (asSession x) (entry (vec .e)) ⌝ }
+    ensures { λ r. ⌜ asSession r ≡ withVec (asSession x) (asVec vec) ⌝ }
 {
     let mut y = x;
     y.vec = vec;
@@ -52,13 +52,13 @@ pub fn with_vector(x: Session, vec: Vector) -> Session
 // With a page of the first `count` keys, none read, begun by a coordinator that has this vector.
 pub fn begun(x: Session, coordinator: Vector, keys: [u8; 8], count: u8) -> Session
     requires { ⌜ count ≤ 8 ⌝ }
-    ensures { λ r. ⌜ asSession r ≡ withPage (asSession x) (begun (entry (coordinator .e)) (asSession x .vec) (keysOn keys count)) ⌝ }
+    ensures { λ r. ⌜ asSession r ≡ withPage (asSession x) (begun (asVec coordinator) (asSession x .vec) (keysOn keys count)) ⌝ }
 {
     let vec = x.vec;
     let zero = Vector::zero();
     let mut y = x;
     y.paged = true;
-    y.page = coordinator.larger_of(vec);
+    y.snapshot = coordinator.larger_of(vec);
     y.keys = keys;
     y.marks = [false; 8];
     y.count = count;

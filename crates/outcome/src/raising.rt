@@ -4,6 +4,7 @@ ghost use mathlib.Core.Path.{_≡_};
 ghost use Prim.Native.Nat.{_<_};
 ghost use Rattle.vector.specs.Vec.{raised};
 ghost use Rattle.vector.specs.Entries.{entry};
+ghost use Rattle.vector.specs.Meaning.{asVec};
 ghost use Rattle.protocol.specs.Record.{raisedBy};
 ghost use Rattle.protocol.specs.State.{withVec};
 ghost use Rattle.parts.specs.Meaning.{asSession};
@@ -15,7 +16,7 @@ use vector::Vector;
 // The session with its vector raised, and otherwise as it is.
 fn raised(x: Session, carried: Vector, source: u8, stamp: u64) -> Session
     requires { ⌜ source < 4 ⌝ }
-    ensures { λ r. ⌜ asSession r ≡ withVec (asSession x) (raised (asSession x .vec) (entry (carried .e)) source stamp) ⌝ }
+    ensures { λ r. ⌜ asSession r ≡ withVec (asSession x) (raised (asSession x .vec) (asVec carried) source stamp) ⌝ }
 {
     let mut y = x;
     let vec = x.vec;
@@ -26,7 +27,7 @@ fn raised(x: Session, carried: Vector, source: u8, stamp: u64) -> Session
 // The session is lent, and raised where it lies.
 pub fn raise(x: &mut Session, carried: Vector, source: u8, stamp: u64)
     requires { ⌜ source < 4 ⌝ }
-    ensures { λ _. ⌜ asSession (now (x .exit)) ≡ withVec (asSession (now (x .entry))) (raised (asSession (now (x .entry)) .vec) (entry (carried .e)) source stamp) ⌝ }
+    ensures { λ _. ⌜ asSession (now (x .exit)) ≡ withVec (asSession (now (x .entry))) (raised (asSession (now (x .entry)) .vec) (asVec carried) source stamp) ⌝ }
 {
     *x = raised(*x, carried, source, stamp);
 }
@@ -34,7 +35,7 @@ pub fn raise(x: &mut Session, carried: Vector, source: u8, stamp: u64)
 // Holds the session and lends it.
 pub fn lent(x: Session, carried: Vector, source: u8, stamp: u64) -> Session
     requires { ⌜ source < 4 ⌝ }
-    ensures { λ r. ⌜ asSession r ≡ withVec (asSession x) (raised (asSession x .vec) (entry (carried .e)) source stamp) ⌝ }
+    ensures { λ r. ⌜ asSession r ≡ withVec (asSession x) (raised (asSession x .vec) (asVec carried) source stamp) ⌝ }
 {
     let mut y = x;
     raise(&mut y, carried, source, stamp);

@@ -2,7 +2,7 @@
 use mathlib.Core.Bool.{false}
 use lib.ListN.{getD}
 use Rattle.codec.specs.Tabulate.{tabulate}
-use Rattle.vector.specs.Entries.{entry}
+use Rattle.vector.specs.Meaning.{asVec}
 use Rattle.protocol.specs.State as State
 use Rattle.record.specs.declared.Message.the-variants as Message
 use Rattle.parts.specs.declared.Session.{Session}
@@ -11,11 +11,11 @@ abbrev pub asSession : Session → State.Session
 asSession x = record {
   isOpen = x .open;
   site = x .site;
-  vec = entry (x .vec .e);
+  vec = asVec (x .vec);
   page = record {
     isOpen = x .paged;
-    vec = entry (x .page .e);
+    vec = asVec (x .snapshot);
     marks = tabulate (x .count) (λ i. record { key = getD (x .keys) i 0; read = getD (x .marks) i false });
-    gathered = entry (x .gathered .e);
+    gathered = asVec (x .gathered);
   };
 }

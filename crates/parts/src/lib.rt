@@ -6,7 +6,7 @@ pub mod channels;
 pub mod nodes;
 pub mod sessions;
 
-// A session and its page: `page` is the page's vector, and the keys and marks below `count` are in use.
+// A session and its page: `snapshot` is the page's vector, and the keys and marks below `count` are in use.
 pub struct Session {
     pub open: bool,
     pub site: u8,
@@ -15,6 +15,6 @@ pub struct Session {
     pub count: u8,
     pub keys: [u8; 8],
     pub marks: [bool; 8],
-    pub page: Vector,
+    pub snapshot: Vector,
     pub gathered: Vector,
 }

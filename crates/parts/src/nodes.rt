@@ -4,6 +4,7 @@ ghost use Prim.Native.Nat.{_+_, _≤_, _<_};
 ghost use lib.ListN.{length};
 ghost use Rattle.codec.specs.Le.{put};
 ghost use Rattle.vector.specs.Entries.{entry};
+ghost use Rattle.vector.specs.Meaning.{asVec};
 ghost use Rattle.record.specs.RecordBytes.{putMessage};
 ghost use Rattle.record.specs.Meaning.{asMessage};
 ghost use Rattle.parts.specs.Node.{clockIn, heardIn, heldIn, slotAt, clockSet, stored, published, received};
@@ -22,7 +23,7 @@ pub fn clock(n: &[u8]) -> u64
 
 pub fn heard(n: &[u8]) -> Vector
     requires { ⌜ length (now n) ≡ 1856 ⌝ }
-    ensures { λ r. ⌜ entry (r .e) ≡ heardIn (now (n .entry)) ⌝ }
+    ensures { λ r. ⌜ asVec r ≡ heardIn (now (n .entry)) ⌝ }
 {
     vector::load_vector(n, 8)
 }

@@ -34,7 +34,7 @@ pub fn load(b: &[u8]) -> Session
     let keys = codec::load_eight(b, 8);
     let marks = load_marks(b);
     let vec = vector::load_vector(b, 32);
-    let page = vector::load_vector(b, 64);
+    let snapshot = vector::load_vector(b, 64);
     let gathered = vector::load_vector(b, 96);
     Session {
         open,
@@ -44,7 +44,7 @@ pub fn load(b: &[u8]) -> Session
         count,
         keys,
         marks,
-        page,
+        snapshot,
         gathered,
     }
 }
@@ -93,11 +93,11 @@ pub fn store(b: &mut [u8], x: Session)
     ensures { λ _. ⌜ now (b .exit) ≡ putSession (asSession x) (now (b .entry)) ⌝ }
 {
     let vec = x.vec;
-    let page = x.page;
+    let snapshot = x.snapshot;
     let gathered = x.gathered;
     store_head(b, x);
     vector::store_vector(b, 32, vec);
-    vector::store_vector(b, 64, page);
+    vector::store_vector(b, 64, snapshot);
     vector::store_vector(b, 96, gathered);
     store_marks(b, x);
 }

@@ -1,5 +1,5 @@
 -- The records and messages that the code holds, as the protocol's.
-use Rattle.vector.specs.Entries.{entry}
+use Rattle.vector.specs.Meaning.{asVec}
 use Rattle.vector.specs.declared.Vector.{Vector}
 use Rattle.protocol.specs.Record.{Rec, Msg, Update, Heartbeat}
 use Rattle.protocol.specs.State as State
@@ -9,11 +9,11 @@ use Rattle.record.specs.declared.Letter.{Letter}
 use Rattle.record.specs.declared.Message.the-variants as Message
 
 abbrev pub asRecord : Record → Rec
-asRecord r = record { id = record { key = r .key; source = r .source; stamp = r .stamp }; quality = r .quality; level = r .level; carried = entry (r .carried .e) }
+asRecord r = record { id = record { key = r .key; source = r .source; stamp = r .stamp }; quality = r .quality; level = r .level; carried = asVec (r .carried) }
 
 abbrev pub messageOf : Message → Vector → Msg
 messageOf (Message.Update key source quality level stamp) v =
-    Update (record { id = record { key = key; source = source; stamp = stamp }; quality = quality; level = level; carried = entry (v .e) })
+    Update (record { id = record { key = key; source = source; stamp = stamp }; quality = quality; level = level; carried = asVec v })
 messageOf (Message.Heartbeat stamp) v = Heartbeat stamp
 
 abbrev pub asMessage : Letter → Msg

@@ -4,6 +4,7 @@ ghost use mathlib.Core.Path.{_≡_};
 ghost use Prim.Native.Nat.{_+_, _≤_};
 ghost use lib.ListN.{length};
 ghost use Rattle.vector.specs.Entries.{entry};
+ghost use Rattle.vector.specs.Meaning.{asVec};
 ghost use Rattle.protocol.specs.Record.{stampIn};
 ghost use Rattle.protocol.specs.Needs.{frontUpdates};
 ghost use Rattle.record.specs.RecordBytes.{recordAt, messageAt, putFields, putMessage};
@@ -112,7 +113,7 @@ fn store_fields(
     carried: Vector,
 )
     requires { ⌜ at + 48 ≤ length (now b) ⌝ }
-    ensures { λ _. ⌜ now (b .exit) ≡ putFields (now (b .entry)) at key source quality kind level stamp (entry (carried .e)) ⌝ }
+    ensures { λ _. ⌜ now (b .exit) ≡ putFields (now (b .entry)) at key source quality kind level stamp (asVec carried) ⌝ }
 {
     codec::store_u8(b, at, key);
     codec::store_u8(b, at + 1, source);

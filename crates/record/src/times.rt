@@ -8,6 +8,7 @@ ghost use lib.ListN.{length};
 ghost use Rattle.codec.specs.Below.{allBelow};
 ghost use Rattle.vector.specs.Vec.{width};
 ghost use Rattle.vector.specs.Entries.{entry, loadVec};
+ghost use Rattle.vector.specs.Meaning.{asVec};
 ghost use Rattle.protocol.specs.Times.{topOf};
 ghost use Rattle.protocol.specs.Meaning.{settingOf};
 ghost use Rattle.record.specs.Ranges.{timeLawful, stampLawful, vecLawful};
@@ -47,9 +48,9 @@ fn entry_lawful(x: u64, i: usize, setting: Setting) -> bool
 }
 
 fn vector_lawful(v: Vector, setting: Setting) -> bool
-    ensures { λ r. ⌜ r ≡ vecLawful (settingOf setting) (entry (v .e)) ⌝ }
+    ensures { λ r. ⌜ r ≡ vecLawful (settingOf setting) (asVec v) ⌝ }
 {
-    let e = v.e;
+    let e = v.entries;
     let mut i = 0;
     while i < Vector::WIDTH {
         if !entry_lawful(e[i], i, setting) {

@@ -4,6 +4,7 @@ ghost use mathlib.Core.Path.{_≡_};
 ghost use Prim.Native.Nat.{ℕ, _+_, _≤_, _<_};
 ghost use lib.ListN.{length};
 ghost use Rattle.vector.specs.Entries.{entry};
+ghost use Rattle.vector.specs.Meaning.{asVec};
 ghost use Rattle.protocol.specs.Record.{Setting, newer, newest};
 ghost use Rattle.protocol.specs.Search.{betterPlace, newestPlace};
 ghost use Rattle.record.specs.RecordBytes.{recordAt};
@@ -33,7 +34,7 @@ const BLANK: Record = Record {
 // Whether the record at `at` is of the key and, on a page, carries no more than the page's vector. The key is compared first: it is one byte.
 fn is_candidate(n: &[u8], at: usize, key: u8, paged: bool, page: Vector) -> bool
     requires { ⌜ at + 48 ≤ length (now n) ⌝ }
-    ensures { λ r. ⌜ r ≡ fitsRead paged key (entry (page .e)) (recordAt (now (n .entry)) at) ⌝ }
+    ensures { λ r. ⌜ r ≡ fitsRead paged key (asVec page) (recordAt (now (n .entry)) at) ⌝ }
 {
     if codec::load_u8(n, at) != key {
         return false;
@@ -59,7 +60,7 @@ fn is_newer(n: &[u8], at: usize, other: usize) -> bool
 // The record in slot k beside the best of those before it.
 fn better(n: &[u8], k: usize, best: usize, key: u8, paged: bool, page: Vector) -> usize
     requires { ⌜ (length (now n) ≡ 1856) × (k < 32) × (best ≤ k) ⌝ }
-    ensures { λ r. ⌜ ((c : Setting) → r ≡ betterPlace c (fitsRead paged key (entry (page .e))) (λ i. recordAt (now (n .entry)) (slotAt i)) k best) ⌝ }
+    ensures { λ r. ⌜ ((c : Setting) → r ≡ betterPlace c (fitsRead paged key (asVec page)) (λ i. recordAt (now (n .entry)) (slotAt i)) k best) ⌝ }
 {
     if !is_candidate(n, 64 + 56 * k, key, paged, page) {
         return best;
@@ -77,7 +78,7 @@ fn better(n: &[u8], k: usize, best: usize, key: u8, paged: bool, page: Vector) -
 // The place of the newest of the first `held` records of a node that fits.
 fn newest_place(n: &[u8], held: usize, key: u8, paged: bool, page: Vector) -> usize
     requires { ⌜ (length (now n) ≡ 1856) × (held ≤ 32) ⌝ }
-    ensures { λ r. ⌜ (r ≤ held) × ((c : Setting) → r ≡ newestPlace c (fitsRead paged key (entry (page .e))) (λ k. recordAt (now (n .entry)) (slotAt k)) held) ⌝ }
+    ensures { λ r. ⌜ (r ≤ held) × ((c : Setting) → r ≡ newestPlace c (fitsRead paged key (asVec page)) (λ k. recordAt (now (n .entry)) (slotAt k)) held) ⌝ }
 {
     let mut best = 0;
     let mut k = 0;
@@ -91,7 +92,7 @@ fn newest_place(n: &[u8], held: usize, key: u8, paged: bool, page: Vector) -> us
 // The newest record of a node that fits.
 pub fn newest(n: &[u8], key: u8, paged: bool, page: Vector) -> Found
     requires { ⌜ (length (now n) ≡ 1856) × (heldIn (now n) ≤ 32) × ((k : ℕ) → k < heldIn (now n) → recordAt (now n) (slotAt k) .id .source < 4) ⌝ }
-    ensures { λ r. ⌜ ((c : Setting) → foundOf r ≡ newest c (fitsRead paged key (entry (page .e))) (storeIn (now (n .entry)))) × (r .reading .source < 4) ⌝ }
+    ensures { λ r. ⌜ ((c : Setting) → foundOf r ≡ newest c (fitsRead paged key (asVec page)) (storeIn (now (n .entry)))) × (r .reading .source < 4) ⌝ }
 {
     let held = nodes::held(n) as usize;
     let place = newest_place(n, held, key, paged, page);

@@ -3,7 +3,7 @@ use mathlib.Core.Path.{_≡_, sym, ap, subst, _∙_}
 use mathlib.Core.Option.{some}
 use Prim.Native.Nat.{_-_, _<_}
 use native.Mathlib.Omega.{arith}
-use Rattle.vector.specs.Entries.{entry}
+use Rattle.vector.specs.Meaning.{asVec}
 use Rattle.protocol.specs.Record.{Setting}
 use Rattle.protocol.specs.Search.{newestPlace}
 use Rattle.protocol.proofs.Places.{newest-none, newest-some}
@@ -24,7 +24,7 @@ newest-place-requires : tie.Need-newest-place-requires
 newest-place-requires c κs = search needs
 
 -- the place among the records that are held
-place-of : (k : tie.After-newest-place) (d : Setting) → k .newest-place .result ≡ newestPlace d (fitsRead (k .before .before .before .args .paged) (k .before .before .before .args .key) (entry (k .before .before .before .args .page .e))) (λ i. recordAt (k .before .before .before .args .n .now) (slotAt i)) (heldIn (k .before .before .before .args .n .now))
+place-of : (k : tie.After-newest-place) (d : Setting) → k .newest-place .result ≡ newestPlace d (fitsRead (k .before .before .before .args .paged) (k .before .before .before .args .key) (asVec (k .before .before .before .args .page))) (λ i. recordAt (k .before .before .before .args .n .now) (slotAt i)) (heldIn (k .before .before .before .args .n .now))
 place-of k d = k .newest-place .ensures .1 d ∙ ap (newestPlace d _ _) (k .before .held .ensures)
 
 returns : tie.Need-returns

@@ -3,7 +3,7 @@ use mathlib.Core.Path.{_≡_, sym, ap, _∙_}
 use Prim.Native.Nat.{_-_, _≤_}
 use native.Mathlib.Omega.{arith}
 use borrow.Author.Needs.{needs}
-use Rattle.vector.specs.Entries.{entry}
+use Rattle.vector.specs.Meaning.{asVec}
 use Rattle.protocol.specs.Record.{Setting}
 use Rattle.protocol.specs.Search.{newestPlace}
 use Rattle.protocol.proofs.Places.{place-none, place-step, place-at-most}
@@ -14,7 +14,7 @@ use Rattle.search.proofs.newest_place.Statement.{statement}
 use Rattle.search.proofs.newest_place.Tie as tie
 
 abbrev Inv-loop : tie.InvT-loop
-Inv-loop n held key paged page best₀ k₀ best k = (k ≤ held) × ((c : Setting) → best ≡ newestPlace c (fitsRead paged key (entry (page .e))) (λ i. recordAt n (slotAt i)) k)
+Inv-loop n held key paged page best₀ k₀ best k = (k ≤ held) × ((c : Setting) → best ≡ newestPlace c (fitsRead paged key (asVec page)) (λ i. recordAt n (slotAt i)) k)
 
 abbrev μ-loop : tie.MeasureT-loop
 μ-loop n held key paged page best₀ k₀ best k = held - k

@@ -4,7 +4,7 @@ use mathlib.Core.Bool.{true}
 use borrow.Author.Tests.{not-true, not-false}
 use borrow.Author.Needs.{needs}
 use Rattle.vector.specs.Vec.{larger}
-use Rattle.vector.specs.Entries.{entry}
+use Rattle.vector.specs.Meaning.{asVec}
 use Rattle.vector.proofs.Vec.{raised-plain}
 use Rattle.protocol.specs.State.{Session, noPage, withVec, withPage}
 use Rattle.protocol.specs.Event.{END}
@@ -37,13 +37,13 @@ loaded c = c .before .before .before .before .before .before .before .before .be
 
 -- without its page, and raised by what that gathered
 raised : (w : tie.After-ended) → let x = loaded (w .before .before) .session .result in
-    asSession (w .ended .result) ≡ withPage (withVec (asSession x) (larger (entry (x .vec .e)) (entry (x .gathered .e)))) noPage
+    asSession (w .ended .result) ≡ withPage (withVec (asSession x) (larger (asVec (x .vec)) (asVec (x .gathered)))) noPage
 unfolding loaded
 raised w =
     let x = loaded (w .before .before) .session .result in
     w .ended .ensures
     ∙ ap (λ (y : Session). withPage y noPage) (w .before .lent .ensures)
-    ∙ rw (raised-plain (entry (x .vec .e)) (entry (x .gathered .e)) (x .site))
+    ∙ rw (raised-plain (asVec (x .vec)) (asVec (x .gathered)) (x .site))
 
 -- ---- the needs
 

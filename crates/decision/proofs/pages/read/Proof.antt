@@ -3,7 +3,7 @@ use mathlib.Core.Path.{_≡_, sym, _∙_}
 use mathlib.Core.Bool.{true}
 use borrow.Author.Tests.{not-true, not-false}
 use borrow.Author.Needs.{needs}
-use Rattle.vector.specs.Entries.{entry}
+use Rattle.vector.specs.Meaning.{asVec}
 use Rattle.protocol.specs.Record.{newest, fitsPage}
 use Rattle.protocol.specs.Event.{READ}
 use Rattle.protocol.specs.Needs.{readReady}
@@ -40,7 +40,7 @@ loaded c = c .before .before .before .before .before .before .before .before .be
 ready : (c : tie.After-at-most) → let k = loaded (c .before .before .before) in
     let x = k .session .result in
     let a = k .before .before .args in
-    c .at-most .result ≡ readReady (heardBy (a .t .now) (x .site) (a .k)) (entry (x .page .e))
+    c .at-most .result ≡ readReady (heardBy (a .t .now) (x .site) (a .k)) (asVec (x .snapshot))
 unfolding readReady loaded
 ready c = c .at-most .ensures ∙ rw (c .before .heard .ensures, c .before .before .partition .ensures .0)
 
@@ -48,7 +48,7 @@ ready c = c .at-most .ensures ∙ rw (c .before .heard .ensures, c .before .befo
 shows : (c : tie.After-newest) → let k = loaded (c .before .before .before .before .before) in
     let x = k .session .result in
     let a = k .before .before .args in
-    foundOf (c .newest .result) ≡ newest (settingIn (a .t .now)) (fitsPage (a .k) (entry (x .page .e))) (storedBy (a .t .now) (x .site) (a .k))
+    foundOf (c .newest .result) ≡ newest (settingIn (a .t .now)) (fitsPage (a .k) (asVec (x .snapshot))) (storedBy (a .t .now) (x .site) (a .k))
 unfolding loaded
 shows c =
     let k = loaded (c .before .before .before .before .before) in

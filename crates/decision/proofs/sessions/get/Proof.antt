@@ -3,7 +3,7 @@ use mathlib.Core.Path.{_≡_, sym, _∙_}
 use mathlib.Core.Bool.{true}
 use borrow.Author.Tests.{not-true, not-false}
 use borrow.Author.Needs.{needs}
-use Rattle.vector.specs.Entries.{entry}
+use Rattle.vector.specs.Meaning.{asVec}
 use Rattle.protocol.specs.Record.{newest, ofKey}
 use Rattle.protocol.specs.Event.{GET}
 use Rattle.protocol.specs.Needs.{getReady}
@@ -37,7 +37,7 @@ loaded c = c .before .before .before .before
 ready : (c : tie.After-at-most-but) → let k = loaded (c .before .before .before) in
     let x = k .session .result in
     let a = k .before .before .args in
-    c .at-most-but .result ≡ getReady (x .site) (heardBy (a .t .now) (x .site) (a .k)) (entry (x .vec .e))
+    c .at-most-but .result ≡ getReady (x .site) (heardBy (a .t .now) (x .site) (a .k)) (asVec (x .vec))
 unfolding getReady loaded
 ready c = c .at-most-but .ensures ∙ rw (c .before .heard .ensures, c .before .before .partition .ensures .0)
 

@@ -1,6 +1,6 @@
 -- `decision::writes::is_ready` meets its contract: the clock is after both.
 use Rattle.vector.specs.Vec.{largest}
-use Rattle.vector.specs.Entries.{entry}
+use Rattle.vector.specs.Meaning.{asVec}
 use Rattle.protocol.specs.Needs.{putReady}
 use Rattle.parts.specs.Node.{clockIn, heardIn}
 use Rattle.table.specs.Parts.{siteOf, nodeOf}
@@ -27,7 +27,7 @@ returns c =
     let k = c .before .before in
     let a = k .before .before .before .args in
     let n = nodeOf (siteOf (a .t .now) (a .m)) (a .p) in
-    rw (c .own .ensures, c .before .largest .ensures, k .clock .ensures, k .before .node .ensures .0) (after-both (largest (entry (a .v .e))) (heardIn n (a .m)) (clockIn n))
+    rw (c .own .ensures, c .before .largest .ensures, k .clock .ensures, k .before .node .ensures .0) (after-both (largest (asVec (a .v))) (heardIn n (a .m)) (clockIn n))
 
 pub is-ready-spec : {M : Type 1} → statement M
 is-ready-spec =
