@@ -3,7 +3,7 @@
 use Prim.Native.Nat.{ℕ, _+_, _≤_, _<_}
 use native.Mathlib.Omega.{arith}
 use mathlib.Core.Path.{_≡_, subst}
-use mathlib.Core.Bool.{Bool, true, cond, not, _&&_, _||_}
+use mathlib.Core.Bool.{Bool, true, not, _&&_, _||_}
 use mathlib.Core.List.{List}
 use lib.Dec.{T, leb, ltb, eqb}
 use lib.ListN.{length}
@@ -57,10 +57,8 @@ module _ (t : List ℕ) (w : T (wellFormed t)) where
   pub parts-at-most : settingIn t .partitions ≤ 4
   parts-at-most = formed t w .partitions
 
-  pub session-here : (s : ℕ) → s < 16 → sessionIn (sessionOf t s) .isOpen ≡ true → sessionIn (sessionOf t s) .site < 4
-  session-here s h e =
-      let F = formed t w in
-      omega (arith, lawful-here (settingIn t) (sessionIn (sessionOf t s)) (F .session s h .lawful) e)
+  pub session-here : (s : ℕ) → s < 16 → sessionIn (sessionOf t s) .isOpen ≡ true → sessionIn (sessionOf t s) .site < settingIn t .sites
+  session-here s h e = lawful-here (settingIn t) (sessionIn (sessionOf t s)) (formed t w .session s h .lawful) e
 
   pub session-marks : (s : ℕ) → s < 16 → load 1 (sessionOf t s) 3 ≤ 8
   unfolding sessionIn

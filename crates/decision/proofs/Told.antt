@@ -12,6 +12,7 @@ use Rattle.parts.specs.declared.Session.{Session}
 use Rattle.parts.specs.Session.{sessionIn}
 use Rattle.parts.specs.Meaning.{asSession}
 use Rattle.table.specs.Parts.{sessionOf}
+use Rattle.table.specs.Decode.{settingIn}
 use Rattle.lawful.specs.WellFormed.{wellFormed}
 use Rattle.decision.proofs.Formed.{session-here}
 
@@ -19,7 +20,7 @@ pub count-told : (x : Session) (b : List ℕ) → asSession x ≡ sessionIn b �
 unfolding sessionIn
 count-told x b e = sym (tab-length (x .count) _) ∙ ap (λ (y : State.Session). length (y .page .marks)) e ∙ tab-length (load 1 b 3) _
 
-pub here-told : (x : Session) (t : List ℕ) → T (wellFormed t) → (s : ℕ) → s < 16 → asSession x ≡ sessionIn (sessionOf t s) → x .open ≡ true → x .site < 4
+pub here-told : (x : Session) (t : List ℕ) → T (wellFormed t) → (s : ℕ) → s < 16 → asSession x ≡ sessionIn (sessionOf t s) → x .open ≡ true → x .site < settingIn t .sites
 here-told x t w s h e o =
     let here = session-here t w s h (sym (ap (λ (y : State.Session). y .isOpen) e) ∙ o) in
-    subst (λ m. m < 4) (sym (ap (λ (y : State.Session). y .site) e)) here
+    subst (λ m. m < settingIn t .sites) (sym (ap (λ (y : State.Session). y .site) e)) here

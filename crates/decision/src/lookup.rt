@@ -4,6 +4,7 @@ ghost use mathlib.Core.Bool.{true};
 ghost use Prim.Native.Nat.{_≤_, _<_};
 ghost use lib.Dec.{T};
 ghost use Rattle.vector.specs.Entries.{entry};
+ghost use Rattle.codec.specs.Le.{load};
 ghost use Rattle.vector.specs.Meaning.{asVec};
 ghost use Rattle.protocol.specs.Record.{Setting, partitionOf, newest};
 ghost use Rattle.parts.specs.Node.{heardIn, storeIn};
@@ -21,9 +22,10 @@ use search::Found;
 use table::places;
 use vector::Vector;
 
+// A session; the site of an open one exists.
 pub fn session(t: &[u8], s: u8) -> Session
     requires { ⌜ Long (now t) × T (wellFormed (now t)) × (s < 16) ⌝ }
-    ensures { λ r. ⌜ (asSession r ≡ sessionIn (sessionOf (now (t .entry)) s)) × (r .count ≤ 8) × (r .open ≡ true → r .site < 4) ⌝ }
+    ensures { λ r. ⌜ (asSession r ≡ sessionIn (sessionOf (now (t .entry)) s)) × (r .count ≤ 8) × (r .open ≡ true → r .site < 4) × (r .open ≡ true → r .site < load 1 (now (t .entry)) 0) ⌝ }
 {
     sessions::load(places::session(t, s))
 }

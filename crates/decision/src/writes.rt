@@ -1,7 +1,6 @@
 // The decisions of the four events that write to nodes: CLOCK, BEAT, PUT and DELIVER. In order: room, and an event each.
 ghost use mathlib.Core.Path.{_≡_};
 ghost use Prim.Native.Nat.{_-_, _≤_, _<_};
-ghost use mathlib.Core.List.{[], _∷_};
 ghost use lib.Dec.{T, ltb};
 ghost use Rattle.codec.specs.Le.{load};
 ghost use Rattle.codec.specs.Below.{allBelow};

@@ -1,7 +1,7 @@
 -- R31 and R33: each code uses the fields named for it, and all others are zero. In order: the ten fields, which code uses which, where each
 -- stands, and the test of what is not used.
 use Prim.Native.Nat.{ℕ, _+_, _-_}
-use mathlib.Core.Bool.{Bool, false, _&&_, _||_}
+use mathlib.Core.Bool.{Bool, _&&_, _||_}
 use mathlib.Core.List.{List, [], _∷_}
 use lib.Dec.{eqb, ltb}
 use lib.ListN.{getD}

@@ -3,7 +3,7 @@
 use Prim.Native.Nat.{ℕ, _+_, _-_, _≤_, _<_}
 use native.Mathlib.Decide.{decLt}
 use native.Mathlib.Omega.{arith}
-use mathlib.Core.Path.{_≡_, sym, ap, subst, _∙_}
+use mathlib.Core.Path.{_≡_, sym, ap, subst}
 use mathlib.Core.List.{List, [], _∷_}
 use lib.Dec.{T}
 use lib.ListN.{length}
@@ -82,6 +82,7 @@ lawful-fits (Receive i m p x) t few few′ bytes ok = record {
   partition = omega (arith, ok .partition);
   msg = message-fits (settingIn t) i p x few (ok .msg);
   room = room-for t m p x (ok .room);
+  waits = let e = chan-length t i m p (omega (arith, ok .site)) (ok .other) in omega (arith, ok .waits);
   bytes = bytes;
 }
 

@@ -53,6 +53,7 @@ pub record LawfulReceive (i m p : ℕ) (x : Msg) (S : State) : Type 0 where
   pub partition : p < S .net .setting .partitions
   pub msg : LawfulMsg (S .net .setting) i p x
   pub room : RoomIn x (S .net .store m p)
+  pub waits : 0 < length (S .net .chan i m p)
 
 abbrev pub Lawful : Change → State → Type 0
 Lawful (SetSession s x) S = (s < 16) × LawfulSession (S .net .setting) x
@@ -207,11 +208,11 @@ module _ (S : State) (ok : LawfulState S) where
         )
 
   take-set : (i m p : ℕ) (q : List Msg) → i < c .sites → m < c .sites → (i ≡ m → ⊥) → p < c .partitions → ((y : Msg) → y ∈ q → LawfulMsg c i p y)
-      → T (not (frontUpdates q) || storeRoom (S .net .store m p)) → LawfulAll (taken i m p q) S
+      → length q ≤ length (S .net .chan i m p) → T (not (frontUpdates q) || storeRoom (S .net .store m p)) → LawfulAll (taken i m p q) S
   unfolding taken
-  take-set i m p [] a b d e all room = tt
-  take-set i m p (y ∷ q) a b d e all room =
-      (record { source = a; site = b; other = d; partition = e; msg = all y (List·Memᴰ·head refl); room = front-room y q (S .net .store m p) room }, tt)
+  take-set i m p [] a b d e all l room = tt
+  take-set i m p (y ∷ q) a b d e all l room =
+      (record { source = a; site = b; other = d; partition = e; msg = all y (List·Memᴰ·head refl); room = front-room y q (S .net .store m p) room; waits = omega arith }, tt)
 
   serve-lawful : (e : Event) → Met (ranges c e) → Met (needs (view S e) e) → LawfulAll (serve (view S e) e .changes) S
   unfolding serve needs ranges
@@ -270,7 +271,7 @@ module _ (S : State) (ok : LawfulState S) where
       let part : p < c .partitions = ltb-yes (r .1 .0) in
       let from = and-yes (ltb i (c .sites)) (not (eqb i m)) (r .1 .1 .0) in
       let source : i < c .sites = ltb-yes (from .0) in
-      take-set i m p (S .net .chan i m p) source site (eqb-no (from .1)) part (ok .chan i m p (omega (arith, ok .sites)) (omega (arith, ok .partitions))) (t .1 .0)
+      take-set i m p (S .net .chan i m p) source site (eqb-no (from .1)) part (ok .chan i m p (omega (arith, ok .sites)) (omega (arith, ok .partitions))) (omega arith) (t .1 .0)
 
 pub step-lawful : (S : State) → LawfulState S → (e : Event) → LawfulAll (step S e .changes) S
 step-lawful S ok e = step-elim S e (λ o. LawfulAll (o .changes) S) (λ w. tt) (serve-lawful S ok e)

@@ -2,7 +2,7 @@
 -- the session, which whoever knows its ranges owns; what is ensured; a session in a local's cell as what a `&mut` refers to, and back.
 use Prim.Native.Nat.{ℕ, _<_, _^_}
 use mathlib.Core.Path.{_≡_, refl}
-use mathlib.Core.List.{[], _∷_, List}
+use mathlib.Core.List.{_∷_, [], List}
 use lib.Dec.{T as Holds}
 use mir.Syntax.{w8, w64}
 use mir.Val.{Val, WT, hasTy, vint}

@@ -4,7 +4,6 @@ ghost use mathlib.Core.Path.{_≡_};
 ghost use mathlib.Core.List.{[], _∷_};
 ghost use Prim.Native.Nat.{_<_};
 ghost use Rattle.vector.specs.Vec.{withEntry};
-ghost use Rattle.vector.specs.Entries.{entry};
 ghost use Rattle.vector.specs.Meaning.{asVec};
 ghost use Rattle.protocol.specs.Record.{Update, raisedBy};
 ghost use Rattle.protocol.specs.State.{withVec};

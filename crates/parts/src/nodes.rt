@@ -1,6 +1,6 @@
 // A node's 1,856 bytes: its clock, what it has heard and its records. In order: reading, one more record, and the changes.
 ghost use mathlib.Core.Path.{_≡_};
-ghost use Prim.Native.Nat.{_+_, _≤_, _<_};
+ghost use Prim.Native.Nat.{_+_, _<_};
 ghost use lib.ListN.{length};
 ghost use Rattle.codec.specs.Le.{put};
 ghost use Rattle.vector.specs.Entries.{entry};

@@ -26,9 +26,7 @@ use Rattle.lawful.proofs.Steps.{Sound}
 use Rattle.outcome.specs.Decided.{changesOf, outcomeOf}
 use Rattle.outcome.specs.declared.Decided.{Decided}
 use Rattle.decision.specs.Answered.{answered}
-use Rattle.steps.specs.Waits.{Waits}
 use Rattle.steps.specs.Step.{gives, refused, fieldsTest, stepOn}
-use Rattle.steps.proofs.Waiting.{step-waits}
 
 -- ---- tests that are known
 
@@ -108,9 +106,6 @@ module _ (n : ℕ) (t e : List ℕ) (d : Decided) (S : Sound n t) (l : T (codeLa
 
   pub decided-fits : FitsAll (changesOf (d .effect) (d .carried) (d .session)) t
   decided-fits = subst (λ o. FitsAll (o .changes) t) decided-step (step-fits t (S .long) (S .bytes) (S .formed) (eventOf e))
-
-  pub decided-waits : Waits (changesOf (d .effect) (d .carried) (d .session)) t
-  decided-waits = subst (λ o. Waits (o .changes) t) decided-step (step-waits t (formed t (S .formed) .sites) (eventOf e))
 
   pub decided-gives : stepOn t e ≡ gives (d .answer) (putChanges (changesOf (d .effect) (d .carried) (d .session)) t)
   decided-gives = fields-lawful-step t e l f ∙ ap (λ o. gives (o .says) (putChanges (o .changes) t)) (sym says)

@@ -6,7 +6,6 @@ ghost use Rattle.table.specs.Parts.{Long};
 ghost use Rattle.table.specs.Put.{putChanges};
 ghost use Rattle.table.specs.Fits.{FitsAll};
 ghost use Rattle.outcome.specs.Decided.{changesOf};
-ghost use Rattle.steps.specs.Waits.{Waits};
 use outcome::Decided;
 use outcome::Effect;
 use record::Letter;
@@ -14,7 +13,7 @@ use record::Message;
 use vector::Vector;
 
 pub fn carry_out(t: &mut [u8], d: Decided)
-    requires { ⌜ Long (now t) × (1 ≤ load 1 (now t) 0) × (load 1 (now t) 0 ≤ 4) × FitsAll (changesOf (d .effect) (d .carried) (d .session)) (now t) × Waits (changesOf (d .effect) (d .carried) (d .session)) (now t) ⌝ }
+    requires { ⌜ Long (now t) × (1 ≤ load 1 (now t) 0) × (load 1 (now t) 0 ≤ 4) × FitsAll (changesOf (d .effect) (d .carried) (d .session)) (now t) ⌝ }
     ensures { λ _. ⌜ now (t .exit) ≡ putChanges (changesOf (d .effect) (d .carried) (d .session)) (now (t .entry)) ⌝ }
 {
     let effect = d.effect;

@@ -10,12 +10,8 @@ use Rattle.record.specs.Fits.{FitsMsg}
 use Rattle.parts.specs.Channel.{waitIn}
 use Rattle.parts.specs.Room.{Room}
 use Rattle.parts.specs.Fits.{FitsSession}
-use Rattle.table.specs.Parts.{siteOf, nodeOf, channelOf}
+use Rattle.table.specs.Parts.{placeOf, siteOf, nodeOf, channelOf}
 use Rattle.table.specs.Put.{putChange}
-
--- ---- a value fits its bytes
-
--- ---- a change fits the table
 
 pub record FitsPublish (m p : ℕ) (x : Msg) (t : List ℕ) : Type 0 where
   pub site : m < load 1 t 0
@@ -32,6 +28,7 @@ pub record FitsReceive (i m p : ℕ) (x : Msg) (t : List ℕ) : Type 0 where
   pub partition : p < 4
   pub msg : FitsMsg x
   pub room : Room x (nodeOf (siteOf t m) p)
+  pub waits : 0 < waitIn (channelOf (siteOf t i) p (placeOf i m))
   pub bytes : Bytes t
 
 abbrev pub Fits : Change → List ℕ → Type 0

@@ -7,7 +7,7 @@ use Rattle.event.specs.Event.{codeLawful}
 use Rattle.lawful.proofs.Facts.{formed}
 use Rattle.lawful.proofs.Steps.{Sound}
 use Rattle.steps.specs.Step.{gives, fieldsTest}
-use Rattle.steps.proofs.Stepped.{is-yes, is-no, test-by, code-unlawful, fields-unlawful, decided-fits, decided-waits, decided-gives}
+use Rattle.steps.proofs.Stepped.{is-yes, is-no, test-by, code-unlawful, fields-unlawful, decided-fits, decided-gives}
 use Rattle.steps.proofs.step.Statement.{statement}
 use Rattle.steps.proofs.step.Tie as tie
 use borrow.Author.Needs.{needs}
@@ -86,7 +86,7 @@ carry-out-requires c κs =
     let F = formed (a .t .now) (S .formed) in
     let l = is-yes _ (code-true (tested f)) in
     let u = is-yes _ (fields-true n) in
-    (S .long, F .site, F .sites, decided-fits _ (a .t .now) (a .e .now) (d .result) S l u (d .ensures), decided-waits _ (a .t .now) (a .e .now) (d .result) S l u (d .ensures))
+    (S .long, F .site, F .sites, decided-fits _ (a .t .now) (a .e .now) (d .result) S l u (d .ensures))
 
 same-length-2 : tie.Need-same-length-2
 same-length-2 c = search needs

@@ -1,9 +1,11 @@
 -- `decision::lookup::session` meets its contract, by what the lent session says and what is lawful of it.
 use Prim.Native.Nat.{_≤_}
+use native.Mathlib.Omega.{arith}
 use mathlib.Core.Path.{sym, ap, subst, _∙_}
 use Rattle.codec.specs.Le.{load}
 use Rattle.parts.specs.Session.{sessionIn}
 use Rattle.table.specs.Parts.{sessionOf}
+use Rattle.lawful.proofs.Facts.{formed}
 use Rattle.decision.proofs.Formed.{session-marks}
 use Rattle.decision.proofs.Told.{count-told, here-told}
 use Rattle.decision.proofs.lookup.session.Statement.{statement}
@@ -24,10 +26,12 @@ returns c =
     let s = c .before .before .before in
     let a = s .args in
     let t = a .t .now in
-    let told = c .load .ensures ∙ ap sessionIn (c .before .session .ensures .0) in (
+    let told = c .load .ensures ∙ ap sessionIn (c .before .session .ensures .0) in
+    let there = here-told (c .load .result) t (s .pre .1) (a .s) (s .pre .2) told in (
       told,
       subst (λ n. n ≤ 8) (sym (count-told (c .load .result) (sessionOf t (a .s)) told)) (session-marks t (s .pre .1) (a .s) (s .pre .2)),
-      λ o. here-told (c .load .result) t (s .pre .1) (a .s) (s .pre .2) told o,
+      λ o. let here = there o in let F = formed t (s .pre .1) in omega (arith, F .sites),
+      there,
     )
 
 pub session-spec : {M : Type 1} → statement M

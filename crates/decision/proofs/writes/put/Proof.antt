@@ -20,7 +20,7 @@ use Rattle.lawful.proofs.Facts.{formed}
 use Rattle.decision.specs.Answered.{answered}
 use Rattle.decision.proofs.Room.{roomy}
 use Rattle.decision.proofs.Ladders.{seenBy}
-use Rattle.decision.proofs.Put.{site-there, put-closed, put-paged, put-there}
+use Rattle.decision.proofs.Put.{put-closed, put-paged, put-there}
 use Rattle.decision.proofs.writes.put.Statement.{statement}
 use Rattle.decision.proofs.writes.put.Tie as tie
 
@@ -48,10 +48,7 @@ returns-2 c =
 
 -- the session is open, so its site exists
 there : (c : tie.Else2) → c .before .before .before .session .result .site < load 1 (c .before .before .before .before .before .args .t .now) 0
-there c =
-    let x = c .before .before .before .session in
-    let s = c .before .before .before .before .before in
-    site-there (s .args .t .now) (s .pre .1) (s .args .s) (s .pre .2) (asSession (x .result)) (x .ensures .0) (not-false _ (c .before .if1 .left))
+there c = c .before .before .before .session .ensures .3 (not-false _ (c .before .if1 .left))
 
 -- so it is one of four
 small : (c : tie.Else2) → c .before .before .before .session .result .site < 4

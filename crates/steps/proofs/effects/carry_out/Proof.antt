@@ -5,17 +5,13 @@ use borrow.Author.Needs.{needs}
 use Rattle.table.specs.Put.{putChanges}
 use Rattle.table.specs.Fits.{FitsAll}
 use Rattle.outcome.specs.declared.Effect.{Effect}
-use Rattle.steps.specs.Waits.{Waits}
 use Rattle.steps.proofs.Carried.{marks-few, changesIf, told, told-same}
 use Rattle.steps.proofs.effects.carry_out.Statement.{statement}
 use Rattle.steps.proofs.effects.carry_out.Tie as tie
 
--- what fits and waits, of an effect that is known
+-- what fits, of an effect that is known
 fits : (s : tie.Start) (w : Effect) → s .args .d .effect ≡ w → FitsAll (changesIf (s .args .d) w) (s .args .t .now)
 fits s w e = told (λ cs. FitsAll cs (s .args .t .now)) (s .args .d) w e (s .pre .3)
-
-waits : (s : tie.Start) (w : Effect) → s .args .d .effect ≡ w → Waits (changesIf (s .args .d) w) (s .args .t .now)
-waits s w e = told (λ cs. Waits cs (s .args .t .now)) (s .args .d) w e (s .pre .4)
 
 -- what is then put
 puts : (s : tie.Start) (w : Effect) → s .args .d .effect ≡ w → putChanges (changesIf (s .args .d) w) (s .args .t .now) ≡ putChanges (changesIf (s .args .d) (s .args .d .effect)) (s .args .t .now)
@@ -112,7 +108,7 @@ receive-requires c κs =
     let k = c .before .before in
     let s = k .before .before .before .before .before in
     let f = fits s _ (k .effect5 .given .1) .0 in
-    (s .pre .0, f .source, f .site, f .partition, f .other, f .room, waits s _ (k .effect5 .given .1) .0)
+    (s .pre .0, f .source, f .site, f .partition, f .other, f .room, f .waits)
 
 returns : tie.Need-returns
 unfolding putChanges
