@@ -10,11 +10,13 @@ use lib.ListN.{length}
 use borrow.Author.Tests.{eq-eqb, ne-eqb}
 use Rattle.codec.proofs.Tests.{cond-elim}
 use Rattle.protocol.specs.declared.Answer.{Answer}
+use Rattle.protocol.specs.declared.Answer.the-variants.{Refused}
+use Rattle.protocol.specs.Event.{plain}
 use Rattle.event.specs.Event.{codeLawful, eventOf}
 use Rattle.event.specs.Fields.{unusedZero}
 use Rattle.lawful.proofs.Steps.{Sound, step-sound}
 use Rattle.reader.specs.Pieces.{pieceOf}
-use Rattle.steps.specs.Step.{Called, gives, refusedWith, refused, stepOn}
+use Rattle.steps.specs.Step.{Called, gives, refused, stepOn}
 use Rattle.steps.specs.Run.{putAnswer, ran, pieceAnswered, runBy, pieceCall, pieceRefused}
 
 module _ (t e : List ℕ) where
@@ -59,7 +61,7 @@ answered-sound n t es b i u w r S = subst (Sound n) (sym (ap (λ x. x .table) r)
 
 -- ---- a table that is refused
 
-pub away-by : (n i : ℕ) (es b e w : List ℕ) (a : Answer) → e ≡ pieceOf es i → a ≡ refusedWith (cond (eqb (length e) 32) n 23)
+pub away-by : (n i : ℕ) (es b e w : List ℕ) (a : Answer) → e ≡ pieceOf es i → a ≡ Refused (plain (cond (eqb (length e) 32) n 23))
     → w ≡ putAnswer b (16 * i) a → (t : List ℕ) → ran t w ≡ pieceAnswered (pieceRefused n) i t es b
 unfolding pieceAnswered pieceRefused
-away-by n i es b e w a q r z t = ap (ran t) (z ∙ ap (putAnswer b (16 * i)) (r ∙ ap (λ x. refusedWith (cond (eqb (length x) 32) n 23)) q))
+away-by n i es b e w a q r z t = ap (ran t) (z ∙ ap (putAnswer b (16 * i)) (r ∙ ap (λ x. Refused (plain (cond (eqb (length x) 32) n 23))) q))

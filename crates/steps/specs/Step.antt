@@ -21,11 +21,8 @@ abbrev pub gives : Answer → List ℕ → Called
 gives a t = record { answer = a; table = t }
 
 -- refused with the number, and no byte changes
-abbrev pub refusedWith : ℕ → Answer
-refusedWith n = Refused (plain n)
-
 abbrev pub refused : ℕ → List ℕ → Called
-refused n t = gives (refusedWith n) t
+refused n t = gives (Refused (plain n)) t
 
 -- the test holds, or the call is refused with the number
 abbrev pub need : Bool → ℕ → List ℕ → Called → Called

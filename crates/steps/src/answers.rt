@@ -2,13 +2,13 @@
 ghost use mathlib.Core.Path.{_≡_};
 ghost use Prim.Native.Nat.{_+_, _≤_};
 ghost use lib.ListN.{length};
-ghost use Rattle.steps.specs.Step.{refusedWith};
+ghost use Rattle.protocol.specs.Event.{plain};
 ghost use Rattle.steps.specs.Run.{putAnswer};
 use protocol::Answer;
 use protocol::Refusal;
 
 pub fn refused(number: u8) -> Answer
-    ensures { λ r. ⌜ r ≡ refusedWith number ⌝ }
+    ensures { λ r. ⌜ r ≡ Answer.Refused (plain number) ⌝ }
 {
     Answer::Refused(Refusal {
         number,

@@ -1,6 +1,7 @@
 -- `steps::runs::refuse_piece` meets its contract: the number by the piece's length, and where the answer goes.
 use mathlib.Core.Path.{ap, _∙_}
-use Rattle.steps.specs.Step.{refusedWith}
+use Rattle.protocol.specs.declared.Answer.the-variants.{Refused}
+use Rattle.protocol.specs.Event.{plain}
 use Rattle.steps.proofs.Kept.{away-by}
 use Rattle.steps.proofs.runs.refuse_piece.Statement.{statement}
 use Rattle.steps.proofs.runs.refuse_piece.Tie as tie
@@ -32,7 +33,7 @@ returns c =
     let x = n .before in
     let a = x .before .before .before .args in
     away-by (a .number) (a .i) (a .es .now) (a .b .now) _ _ (r .refused .result) (x .event-of .ensures)
-    (r .refused .ensures ∙ ap refusedWith (n .number-for .ensures)) (z .store-answer .ensures)
+    (r .refused .ensures ∙ ap (λ k. Refused (plain k)) (n .number-for .ensures)) (z .store-answer .ensures)
 
 pub refuse-piece-spec : {M : Type 1} → statement M
 refuse-piece-spec =
