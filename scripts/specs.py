@@ -1,5 +1,5 @@
-"""Reads the crates' definitions, for scripts/believed and scripts/openings. In order: a definition, a file and what its names mean, all crates, and
-what a set of definitions reaches.
+"""Reads the crates' definitions, for scripts/believed, openings and moved. In order: a definition, a file and what its names mean, all crates, what a
+set of definitions reaches, and what has to be believed.
 
 A definition is a signature, a `record` or a `data` type at the left margin, with its clauses. Names are resolved through the file's `use` lines.
 No crate and no file is named here: crates and files may be cut anew."""
@@ -166,3 +166,24 @@ def reached(roots):
             seen.add(d)
             todo += d.uses() if d.kind != 'type' else []
     return seen
+
+
+def contracts(file):
+    """Of each public function all that stands before its body."""
+    lines = file.text.split('\n')
+    for i, line in enumerate(lines):
+        if re.match(r' *pub (extern "C" )?fn ', line):
+            body = next(j for j in range(i, len(lines)) if lines[j].endswith('{') and not re.search('requires|ensures', lines[j]))
+            yield '\n'.join(lines[i:body + 1])
+
+
+def believed(crates, named=()):
+    """The public crates (those named, or else those that export a function for C), their promises, their functions with contracts, and what these reach."""
+    public = set(named) or {f.crate for f in crates.sources if 'pub extern "C" fn' in f.text}
+    promises = [d for d in crates.definitions() if d.file.crate in public and d.is_promise()]
+    roots = [d for p in promises for d in p.file.definitions.values()]
+    functions = [(f, c) for f in crates.sources if f.crate in public for c in contracts(f)]
+    for file, contract in functions:
+        roots += filter(None, map(file.meaning, tokens(contract)))
+        roots += [t for t in crates.types.values() if t.name in re.findall(r'\w+', contract)]
+    return public, promises, functions, reached(roots)
