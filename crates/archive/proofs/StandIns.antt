@@ -16,9 +16,10 @@ use Rattle.protocol.specs.Record.{Setting}
 use Rattle.protocol.specs.State.{setup}
 use Rattle.protocol.specs.Event.{DELIVER}
 use Rattle.protocol.specs.declared.Refusal.{Refusal}
+use Rattle.protocol.specs.declared.Shown.{Shown}
 use Rattle.protocol.specs.declared.Answer.the-variants.{Done, Value, Refused}
 use Rattle.protocol.specs.Step.{step, next, after}
-use Rattle.protocol.proofs.Runs.{computing}
+use Rattle.protocol.proofs.Runs.{computing, showing}
 use Rattle.event.specs.Event.{codeLawful, eventOf}
 use Rattle.event.specs.Fields.{uses, zeroAt, restZero, unusedZero}
 use Rattle.table.specs.Parts.{tableLength}
@@ -111,18 +112,18 @@ always-refuses F r m =
 shows : (l : ℕ) → List (List ℕ)
 shows l = opens ∷ clockTo 1 ∷ putsLevel l ∷ []
 
-shows-one : stepCall (tableAfter table (shows 1)) gets .answer ≡ Value 0 0 (pos 1) 1
+shows-one : stepCall (tableAfter table (shows 1)) gets .answer ≡ showing 0 0 (pos 1) 1
 unfolding reading shows
 shows-one = answer-is (shows 1) gets tt
 
-shows-two : stepCall (tableAfter table (shows 2)) gets .answer ≡ Value 0 0 (pos 2) 1
+shows-two : stepCall (tableAfter table (shows 2)) gets .answer ≡ showing 0 0 (pos 2) 1
 unfolding reading shows
 shows-two = answer-is (shows 2) gets tt
 
-same-level : (F : Step) (l : ℤ) → ((t e : List ℕ) (m q s : ℕ) (v : ℤ) → F t e .answer ≡ Value m q v s → v ≡ l) → Meets F → ⊥
+same-level : (F : Step) (l : ℤ) → ((t e : List ℕ) (v : Shown) → F t e .answer ≡ Value v → v .level ≡ l) → Meets F → ⊥
 same-level F l r m =
-    let a : pos 1 ≡ l = r (tableAfter table (shows 1)) gets 0 0 1 (pos 1) (ap (λ c. c .answer) (m (tableAfter table (shows 1)) gets) ∙ shows-one) in
-    let b : pos 2 ≡ l = r (tableAfter table (shows 2)) gets 0 0 1 (pos 2) (ap (λ c. c .answer) (m (tableAfter table (shows 2)) gets) ∙ shows-two) in
+    let a : pos 1 ≡ l = r (tableAfter table (shows 1)) gets _ (ap (λ c. c .answer) (m (tableAfter table (shows 1)) gets) ∙ shows-one) in
+    let b : pos 2 ≡ l = r (tableAfter table (shows 2)) gets _ (ap (λ c. c .answer) (m (tableAfter table (shows 2)) gets) ∙ shows-two) in
     let z : pos 1 ≡ pos 2 = a ∙ sym b in
     let n : _≡_ {A = ℕ} 1 2 = cc in
     omega arith

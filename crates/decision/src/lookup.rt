@@ -10,7 +10,7 @@ ghost use Rattle.protocol.specs.Record.{Setting, partitionOf, newest};
 ghost use Rattle.parts.specs.Node.{heardIn, storeIn};
 ghost use Rattle.parts.specs.Session.{sessionIn};
 ghost use Rattle.parts.specs.Meaning.{asSession};
-ghost use Rattle.search.specs.Found.{fitsRead, foundOf};
+ghost use Rattle.search.specs.Found.{fits, foundOf};
 ghost use Rattle.table.specs.Parts.{Long, sessionOf, siteOf, nodeOf};
 ghost use Rattle.table.specs.Decode.{settingIn};
 ghost use Rattle.lawful.specs.WellFormed.{wellFormed};
@@ -19,6 +19,7 @@ use parts::nodes;
 use parts::sessions;
 use protocol::limits;
 use search::Found;
+use search::Wanted;
 use table::places;
 use vector::Vector;
 
@@ -47,10 +48,10 @@ pub fn heard(t: &[u8], m: u8, p: u8) -> Vector
     nodes::heard(places::node(t, m, p))
 }
 
-// The newest record there that fits a read of the key: on a page, that of the page's vector.
-pub fn newest(t: &[u8], m: u8, p: u8, key: u8, paged: bool, page: Vector) -> Found
+// The newest record there that fits the read.
+pub fn newest(t: &[u8], m: u8, p: u8, w: Wanted) -> Found
     requires { ⌜ Long (now t) × T (wellFormed (now t)) × (m < 4) × (p < 4) ⌝ }
-    ensures { λ r. ⌜ ((c : Setting) → foundOf r ≡ newest c (fitsRead paged key (asVec page)) (storeIn (nodeOf (siteOf (now (t .entry)) m) p))) × (r .reading .source < 4) ⌝ }
+    ensures { λ r. ⌜ ((c : Setting) → foundOf r ≡ newest c (fits w) (storeIn (nodeOf (siteOf (now (t .entry)) m) p))) × (r .reading .source < 4) ⌝ }
 {
-    search::newest(places::node(t, m, p), key, paged, page)
+    search::newest(places::node(t, m, p), w)
 }

@@ -21,6 +21,7 @@ use crate::keeping;
 use parts::Session;
 use protocol::Answer;
 use protocol::Refusal;
+use protocol::Shown;
 use record::Letter;
 use record::Message;
 use search::Found;
@@ -34,12 +35,12 @@ pub fn shown(x: Found) -> Answer
         return Answer::Nothing;
     }
     let r = x.reading;
-    Answer::Value {
+    Answer::Value(Shown {
         source: r.source,
         quality: r.quality,
         level: r.level,
         stamp: r.stamp,
-    }
+    })
 }
 
 // The vector, raised by what a search gave: unchanged if nothing was found.

@@ -156,7 +156,7 @@ influenced S R e a = step-sees S e ∙ ap (λ v. decide v e) (seen-alike S R (pl
 unfoldable pub Unserved : Answer → Type 0
 Unserved Done = ⊥
 Unserved (Stamped m t) = ⊥
-Unserved (Value m q l t) = ⊥
+Unserved (Value v) = ⊥
 Unserved Nothing = ⊥
 Unserved (Refused w) = Unit {0}
 

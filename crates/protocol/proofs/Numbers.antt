@@ -40,7 +40,7 @@ served-own : (a : Answer) → (Unserved a → ⊥) → T (not (isAround (numberO
 unfolding isAround Unserved
 served-own Done u = tt
 served-own (Stamped m t) u = tt
-served-own (Value m q l t) u = tt
+served-own (Value v) u = tt
 served-own Nothing u = tt
 served-own (Refused w) u = absurd (u tt)
 

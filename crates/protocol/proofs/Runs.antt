@@ -2,7 +2,7 @@
 use Prim.Native.Nat.{ℕ}
 use mathlib.Core.Path.{_≡_, refl}
 use mathlib.Core.List.{List, [], _∷_}
-use lib.IntN.{pos, negsuc}
+use lib.IntN.{ℤ, pos, negsuc}
 use Rattle.codec.specs.Below.{allBelow}
 use Rattle.vector.specs.Vec.{atMost, atMostBut, largestOf, largest, withEntry, atLeast, larger, raised}
 use Rattle.protocol.specs.Record.{stampIn, recordsIn, rank, newer, newerOf, newest, ofKey, fitsPage, raisedBy}
@@ -25,6 +25,9 @@ computing = tt
 
 abbrev pub refused : ℕ → Answer
 refused n = Refused (plain n)
+
+abbrev pub showing : (source quality : ℕ) (level : ℤ) (stamp : ℕ) → Answer
+showing m q l t = Value (record { source = m; quality = q; level = l; stamp = t })
 
 -- ---- the bench
 
@@ -60,14 +63,14 @@ benchAnswers =
     ∷ Done
     ∷ Stamped 0 101
     ∷ Done
-    ∷ Value 0 1 (negsuc 29) 101
+    ∷ showing 0 1 (negsuc 29) 101
     ∷ refused 3
     ∷ Done
     ∷ refused 3
     ∷ Done
     ∷ Done
     ∷ Done
-    ∷ Value 0 0 (pos 1250) 100
+    ∷ showing 0 0 (pos 1250) 100
     ∷ []
 
 bench : answers (log (setup (record { sites = 4; partitions = 4 })) benchEvents) ≡ benchAnswers
@@ -123,10 +126,10 @@ pageAnswers =
     ∷ refused 11
     ∷ Done
     ∷ refused 14
-    ∷ Value 0 0 (pos 5) 10
+    ∷ showing 0 0 (pos 5) 10
     ∷ refused 18
     ∷ refused 16
-    ∷ Value 0 0 (pos 6) 20
+    ∷ showing 0 0 (pos 6) 20
     ∷ refused 16
     ∷ Done
     ∷ refused 15

@@ -10,7 +10,7 @@ use lib.IntN.{pos}
 use Rattle.vector.specs.Vec.{Vec, largest, withEntry, atLeast}
 use Rattle.protocol.specs.Record.{Setting, partitionOf, Id, Rec, Update, newest, ofKey, fitsPage, raisedBy}
 use Rattle.protocol.specs.State.{Session, State, withVec, withPage, setup}
-use Rattle.protocol.specs.Event.{Event, OPEN, CLOSE, CLOCK, GET, PUT, BEGIN, READ, END, BEAT, DELIVER, Answer, Stamped, Value, Nothing, shown}
+use Rattle.protocol.specs.Event.{Event, OPEN, CLOSE, CLOCK, GET, PUT, BEGIN, READ, END, BEAT, DELIVER, Answer, Stamped, Nothing, shown}
 use Rattle.protocol.specs.View.{View, view}
 use Rattle.protocol.specs.Needs.{_else_, ranges, putReady, storeRoom, sendRoom, needs}
 use Rattle.protocol.specs.Change.{SetSession, Publish, applyAll}
@@ -18,7 +18,7 @@ use Rattle.protocol.specs.Serve.{Outcome, _and_, readOn, written, serve}
 use Rattle.protocol.specs.Step.{judge, judged, decide, Line, log}
 use Rattle.protocol.specs.Past.{_∈_, History, served, shownIn, shownOn, sameId, writerPast, withPasts, tell, wrote, noteServed, note, start, retell, history}
 use Rattle.protocol.specs.Causal.{NoOlder, Covers, CoversAll, GetCausal, PageCausal}
-use Rattle.protocol.proofs.Runs.{computing, refused}
+use Rattle.protocol.proofs.Runs.{computing, refused, showing}
 
 -- ---- the protocol by other rules: how a GET raises, which records a READ shows, when a PUT is served, what its record carries
 
@@ -151,15 +151,15 @@ between =
     OPEN 0 0 ∷ OPEN 1 0 ∷ CLOCK 0 0 10 ∷ PUT 0 0 0 (pos 1) ∷ BEGIN 1 0 (0 ∷ 1 ∷ []) ∷ READ 1 0 ∷ CLOCK 0 0 20 ∷ PUT 0 0 0 (pos 2) ∷ CLOCK 0 1 30 ∷ PUT 0 1 0 (pos 3)
     ∷ READ 1 1 ∷ []
 
-between-differs : Differ asGets between Nothing (Value 0 0 (pos 3) 30)
+between-differs : Differ asGets between Nothing (showing 0 0 (pos 3) 30)
 unfolding past lastOf asGets between
 between-differs = record { ours-says = refl; trap-says = refl }
 
 between-breaks : PageCausal four (history (logBy asGets (setup four) between)) 1 → ⊥
 unfolding past asGets between
 between-breaks g =
-    not-covered four 0 (Value 0 0 (pos 1) 10) (named 0 0 10) (named 0 0 20) refl (λ n. n)
-    (g .together (record { key = 0; says = Value 0 0 (pos 1) 10 }) (record { key = 1; says = Value 0 0 (pos 3) 30 }) (List·Memᴰ·tail (List·Memᴰ·head refl)) (List·Memᴰ·head refl)
+    not-covered four 0 (showing 0 0 (pos 1) 10) (named 0 0 10) (named 0 0 20) refl (λ n. n)
+    (g .together (record { key = 0; says = showing 0 0 (pos 1) 10 }) (record { key = 1; says = showing 0 0 (pos 3) 30 }) (List·Memᴰ·tail (List·Memᴰ·head refl)) (List·Memᴰ·head refl)
     (named 1 0 30) (List·Memᴰ·head refl) (named 0 0 20) (List·Memᴰ·head refl) refl)
 
 -- ---- 3. Stamping a PUT equal to an earlier heartbeat: a reader counts it as heard before it arrives
@@ -200,6 +200,6 @@ ownIncluded = record { raises = raisedBy; fits = fitsPage; ready = putReady; car
 unfoldable missed : List Event
 missed = OPEN 0 0 ∷ OPEN 1 0 ∷ CLOCK 0 0 10 ∷ PUT 0 0 0 (pos 1) ∷ BEGIN 1 1 (0 ∷ []) ∷ READ 1 0 ∷ []
 
-missed-differs : Differ ownIncluded missed (Value 0 0 (pos 1) 10) Nothing
+missed-differs : Differ ownIncluded missed (showing 0 0 (pos 1) 10) Nothing
 unfolding past lastOf ownIncluded missed
 missed-differs = record { ours-says = refl; trap-says = refl }

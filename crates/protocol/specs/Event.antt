@@ -5,6 +5,7 @@ use mathlib.Core.Option.{Option, some, none}
 use lib.IntN.{ℤ, pos}
 use Rattle.protocol.specs.Record.{Rec}
 pub use Rattle.protocol.specs.declared.Refusal.{Refusal}
+pub use Rattle.protocol.specs.declared.Shown.{Shown}
 pub use Rattle.protocol.specs.declared.Answer.{Answer}
 pub use Rattle.protocol.specs.declared.Values.{Values}
 pub use Rattle.protocol.specs.declared.Answer.the-variants.{Done, Stamped, Value, Nothing, Refused}
@@ -28,7 +29,7 @@ plain n = record { number = n; source = 0; stamp = 0 }
 
 unfoldable pub shown : Option Rec → Answer
 shown none = Nothing
-shown (some r) = Value (r .id .source) (r .quality) (r .level) (r .id .stamp)
+shown (some r) = Value (record { source = r .id .source; quality = r .quality; level = r .level; stamp = r .id .stamp })
 
 -- ---- R34: an answer as number, source, quality, level and stamp
 
@@ -38,7 +39,7 @@ five n m q l t = record { number = n; source = m; quality = q; level = l; stamp 
 abbrev pub valuesOf : Answer → Values
 valuesOf Done = five 0 0 0 (pos 0) 0
 valuesOf (Stamped m t) = five 0 m 0 (pos 0) t
-valuesOf (Value m q l t) = five 1 m q l t
+valuesOf (Value v) = five 1 (v .source) (v .quality) (v .level) (v .stamp)
 valuesOf Nothing = five 2 0 0 (pos 0) 0
 valuesOf (Refused w) = five (w .number) (w .source) 0 (pos 0) (w .stamp)
 

@@ -38,7 +38,7 @@ pub record History : Type 0 where
 unfoldable pub served : Answer → Bool
 served Done = true
 served (Stamped m t) = true
-served (Value m q l t) = true
+served (Value v) = true
 served Nothing = true
 served (Refused w) = false
 
@@ -46,7 +46,7 @@ served (Refused w) = false
 unfoldable pub shownIn : ℕ → Answer → List Id
 shownIn k Done = []
 shownIn k (Stamped m t) = []
-shownIn k (Value m q l t) = record { key = k; source = m; stamp = t } ∷ []
+shownIn k (Value v) = record { key = k; source = v .source; stamp = v .stamp } ∷ []
 shownIn k Nothing = []
 shownIn k (Refused w) = []
 

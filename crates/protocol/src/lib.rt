@@ -12,18 +12,18 @@ pub struct Refusal {
     pub stamp: u64,
 }
 
+// What an answer shows of a record.
+pub struct Shown {
+    pub source: u8,
+    pub quality: u8,
+    pub level: i32,
+    pub stamp: u64,
+}
+
 pub enum Answer {
     Done,
-    Stamped {
-        source: u8,
-        stamp: u64,
-    },
-    Value {
-        source: u8,
-        quality: u8,
-        level: i32,
-        stamp: u64,
-    },
+    Stamped { source: u8, stamp: u64 },
+    Value(Shown),
     Nothing,
     Refused(Refusal),
 }
@@ -56,12 +56,7 @@ pub fn values_of(a: Answer) -> Values
     match a {
         Answer::Done => five(0, 0, 0, 0, 0),
         Answer::Stamped { source, stamp } => five(0, source, 0, 0, stamp),
-        Answer::Value {
-            source,
-            quality,
-            level,
-            stamp,
-        } => five(1, source, quality, level, stamp),
+        Answer::Value(v) => five(1, v.source, v.quality, v.level, v.stamp),
         Answer::Nothing => five(2, 0, 0, 0, 0),
         Answer::Refused(w) => five(w.number, w.source, 0, 0, w.stamp),
     }

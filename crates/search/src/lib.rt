@@ -3,17 +3,22 @@
 ghost use mathlib.Core.Path.{_≡_};
 ghost use Prim.Native.Nat.{ℕ, _+_, _≤_, _<_};
 ghost use lib.ListN.{length};
-ghost use Rattle.vector.specs.Entries.{entry};
-ghost use Rattle.vector.specs.Meaning.{asVec};
 ghost use Rattle.protocol.specs.Record.{Setting, newer, newest};
 ghost use Rattle.protocol.specs.Search.{betterPlace, newestPlace};
 ghost use Rattle.record.specs.RecordBytes.{recordAt};
 ghost use Rattle.parts.specs.Node.{slotAt, heldIn, storeIn};
-ghost use Rattle.search.specs.Found.{fitsRead, foundOf};
+ghost use Rattle.search.specs.Found.{fits, foundOf};
 use parts::nodes;
 use record::Record;
 use record::bytes;
 use vector::Vector;
+
+// What a read asks of a record: its key and, where `paged`, that it carries no more than the page's vector.
+pub struct Wanted {
+    pub key: u8,
+    pub paged: bool,
+    pub snapshot: Vector,
+}
 
 // What a search gives: the reading counts only if it was found.
 pub struct Found {
@@ -31,16 +36,16 @@ const BLANK: Record = Record {
     carried: Vector::ZERO,
 };
 
-// Whether the record at `at` is of the key and, on a page, carries no more than the page's vector. The key is compared first: it is one byte.
-fn is_candidate(n: &[u8], at: usize, key: u8, paged: bool, page: Vector) -> bool
+// Whether the record at `at` is one that the read wants. The key is compared first: it is one byte.
+fn is_candidate(n: &[u8], at: usize, w: Wanted) -> bool
     requires { ⌜ at + 48 ≤ length (now n) ⌝ }
-    ensures { λ r. ⌜ r ≡ fitsRead paged key (asVec page) (recordAt (now (n .entry)) at) ⌝ }
+    ensures { λ r. ⌜ r ≡ fits w (recordAt (now (n .entry)) at) ⌝ }
 {
-    if codec::load_u8(n, at) != key {
+    if codec::load_u8(n, at) != w.key {
         return false;
     }
-    if paged {
-        return vector::load_vector(n, at + 16).at_most(page);
+    if w.paged {
+        return vector::load_vector(n, at + 16).at_most(w.snapshot);
     }
     true
 }
@@ -58,11 +63,11 @@ fn is_newer(n: &[u8], at: usize, other: usize) -> bool
 }
 
 // The record in slot k beside the best of those before it.
-fn better(n: &[u8], k: usize, best: usize, key: u8, paged: bool, page: Vector) -> usize
+fn better(n: &[u8], k: usize, best: usize, w: Wanted) -> usize
     requires { ⌜ (length (now n) ≡ 1856) × (k < 32) × (best ≤ k) ⌝ }
-    ensures { λ r. ⌜ ((c : Setting) → r ≡ betterPlace c (fitsRead paged key (asVec page)) (λ i. recordAt (now (n .entry)) (slotAt i)) k best) ⌝ }
+    ensures { λ r. ⌜ ((c : Setting) → r ≡ betterPlace c (fits w) (λ i. recordAt (now (n .entry)) (slotAt i)) k best) ⌝ }
 {
-    if !is_candidate(n, 64 + 56 * k, key, paged, page) {
+    if !is_candidate(n, 64 + 56 * k, w) {
         return best;
     }
     if best == 0 {
@@ -76,26 +81,26 @@ fn better(n: &[u8], k: usize, best: usize, key: u8, paged: bool, page: Vector) -
 }
 
 // The place of the newest of the first `held` records of a node that fits.
-fn newest_place(n: &[u8], held: usize, key: u8, paged: bool, page: Vector) -> usize
+fn newest_place(n: &[u8], held: usize, w: Wanted) -> usize
     requires { ⌜ (length (now n) ≡ 1856) × (held ≤ 32) ⌝ }
-    ensures { λ r. ⌜ (r ≤ held) × ((c : Setting) → r ≡ newestPlace c (fitsRead paged key (asVec page)) (λ k. recordAt (now (n .entry)) (slotAt k)) held) ⌝ }
+    ensures { λ r. ⌜ (r ≤ held) × ((c : Setting) → r ≡ newestPlace c (fits w) (λ k. recordAt (now (n .entry)) (slotAt k)) held) ⌝ }
 {
     let mut best = 0;
     let mut k = 0;
     while k < held {
-        best = better(n, k, best, key, paged, page);
+        best = better(n, k, best, w);
         k += 1;
     }
     best
 }
 
 // The newest record of a node that fits.
-pub fn newest(n: &[u8], key: u8, paged: bool, page: Vector) -> Found
+pub fn newest(n: &[u8], w: Wanted) -> Found
     requires { ⌜ (length (now n) ≡ 1856) × (heldIn (now n) ≤ 32) × ((k : ℕ) → k < heldIn (now n) → recordAt (now n) (slotAt k) .id .source < 4) ⌝ }
-    ensures { λ r. ⌜ ((c : Setting) → foundOf r ≡ newest c (fitsRead paged key (asVec page)) (storeIn (now (n .entry)))) × (r .reading .source < 4) ⌝ }
+    ensures { λ r. ⌜ ((c : Setting) → foundOf r ≡ newest c (fits w) (storeIn (now (n .entry)))) × (r .reading .source < 4) ⌝ }
 {
     let held = nodes::held(n) as usize;
-    let place = newest_place(n, held, key, paged, page);
+    let place = newest_place(n, held, w);
     if place == 0 {
         return Found {
             found: false,

@@ -1,9 +1,8 @@
 -- `protocol::values_of` meets its contract, variant by variant.
 use mathlib.Core.Path.{sym, ap, _∙_}
-use lib.IntN.{ℤ}
 use mir.Syntax.{w32}
-use mir.Facts.{toZ-ofZ}
-use Rattle.protocol.specs.Event.{five, valuesOf}
+use mir.ValLaws.{toZ-ofZ}
+use Rattle.protocol.specs.Event.{valuesOf}
 use Rattle.protocol.proofs.values_of.Statement.{statement}
 use Rattle.protocol.proofs.values_of.Tie as tie
 use borrow.Author.Needs.{needs}
@@ -46,8 +45,8 @@ returns-2 c = c .five2 .ensures ∙ sym (ap valuesOf (c .before .before .a .give
 
 returns-3 : tie.Need-returns-3
 returns-3 c =
-    let g = c .before .before .a2 .given in
-    c .five3 .ensures ∙ ap (λ (l : ℤ). five 1 (g .0 .0) (g .0 .1 .0) l (g .0 .1 .1 .1 .0)) (toZ-ofZ {w = w32} (record { sfits = c .before .known-told2 .given .1 .1 .0 .1 })) ∙ sym (ap valuesOf (g .1))
+    let g = c .before .before .before .a2 .given in
+    c .five3 .ensures ∙ rw (toZ-ofZ w32 (g .0 .0 .level) (record { sfits = search needs })) (sym (ap valuesOf (g .1)))
 
 returns-4 : tie.Need-returns-4
 returns-4 c = c .five4 .ensures ∙ sym (ap valuesOf (c .before .enum-told2 .given .1))

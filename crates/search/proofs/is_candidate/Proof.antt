@@ -4,7 +4,7 @@ use borrow.Author.Needs.{needs}
 use borrow.Author.Tests.{eq-eqb, ne-eqb}
 use Rattle.protocol.specs.Record.{ofKey}
 use Rattle.record.specs.RecordBytes.{recordAt}
-use Rattle.search.specs.Found.{fitsRead}
+use Rattle.search.specs.Found.{fits}
 use Rattle.search.proofs.is_candidate.Statement.{statement}
 use Rattle.search.proofs.is_candidate.Tie as tie
 
@@ -12,8 +12,8 @@ load-u8-requires : tie.Need-load-u8-requires
 load-u8-requires c κs = search needs
 
 returns : tie.Need-returns
-unfolding fitsRead ofKey recordAt
-returns c = rw (ne-eqb _ _ (λ e. c .if1 .taken (c .before .load-u8 .ensures ∙ e)))
+unfolding fits ofKey recordAt
+returns c = rw (ne-eqb _ _ (λ e. c .if1 .taken (c .before .before .load-u8 .ensures ∙ e)))
 
 add-load-vector : tie.Need-add-load-vector
 add-load-vector c = search needs
@@ -25,16 +25,16 @@ at-most-requires : tie.Need-at-most-requires
 at-most-requires c κs = search needs
 
 returns-2 : tie.Need-returns-2
-unfolding fitsRead ofKey recordAt
+unfolding fits ofKey recordAt
 returns-2 c =
     let u = c .before .before in
-    let k = u .before .before in
+    let k = u .before .before .before in
     rw (eq-eqb _ _ (sym (k .load-u8 .ensures) ∙ u .before .if1 .left), u .if2 .taken) (c .at-most .ensures ∙ rw (c .before .load-vector .ensures))
 
 returns-3 : tie.Need-returns-3
-unfolding fitsRead ofKey recordAt
+unfolding fits ofKey recordAt
 returns-3 c =
-    let k = c .before .before in
+    let k = c .before .before .before in
     rw (eq-eqb _ _ (sym (k .load-u8 .ensures) ∙ c .before .if1 .left), c .if2 .left)
 
 pub is-candidate-spec : {M : Type 1} → statement M

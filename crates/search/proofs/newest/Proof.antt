@@ -3,13 +3,12 @@ use mathlib.Core.Path.{_≡_, sym, ap, subst, _∙_}
 use mathlib.Core.Option.{some}
 use Prim.Native.Nat.{_-_, _<_}
 use native.Mathlib.Omega.{arith}
-use Rattle.vector.specs.Meaning.{asVec}
 use Rattle.protocol.specs.Record.{Setting}
 use Rattle.protocol.specs.Search.{newestPlace}
 use Rattle.protocol.proofs.Places.{newest-none, newest-some}
 use Rattle.record.specs.RecordBytes.{recordAt}
 use Rattle.parts.specs.Node.{slotAt, heldIn, storeIn}
-use Rattle.search.specs.Found.{fitsRead}
+use Rattle.search.specs.Found.{fits}
 use Rattle.search.proofs.newest.Statement.{statement}
 use Rattle.search.proofs.newest.Tie as tie
 use borrow.Author.Needs.{needs}
@@ -24,7 +23,8 @@ newest-place-requires : tie.Need-newest-place-requires
 newest-place-requires c κs = search needs
 
 -- the place among the records that are held
-place-of : (k : tie.After-newest-place) (d : Setting) → k .newest-place .result ≡ newestPlace d (fitsRead (k .before .before .before .args .paged) (k .before .before .before .args .key) (asVec (k .before .before .before .args .page))) (λ i. recordAt (k .before .before .before .args .n .now) (slotAt i)) (heldIn (k .before .before .before .args .n .now))
+place-of : (k : tie.After-newest-place) (d : Setting) → let a = k .before .before .before .args in
+    k .newest-place .result ≡ newestPlace d (fits (a .w)) (λ i. recordAt (a .n .now) (slotAt i)) (heldIn (a .n .now))
 place-of k d = k .newest-place .ensures .1 d ∙ ap (newestPlace d _ _) (k .before .held .ensures)
 
 returns : tie.Need-returns

@@ -3,21 +3,20 @@ use mathlib.Core.Path.{_≡_, sym, ap, _∙_}
 use Prim.Native.Nat.{_-_, _≤_}
 use native.Mathlib.Omega.{arith}
 use borrow.Author.Needs.{needs}
-use Rattle.vector.specs.Meaning.{asVec}
 use Rattle.protocol.specs.Record.{Setting}
 use Rattle.protocol.specs.Search.{newestPlace}
 use Rattle.protocol.proofs.Places.{place-none, place-step, place-at-most}
 use Rattle.record.specs.RecordBytes.{recordAt}
 use Rattle.parts.specs.Node.{slotAt}
-use Rattle.search.specs.Found.{fitsRead}
+use Rattle.search.specs.Found.{fits}
 use Rattle.search.proofs.newest_place.Statement.{statement}
 use Rattle.search.proofs.newest_place.Tie as tie
 
 abbrev Inv-loop : tie.InvT-loop
-Inv-loop n held key paged page best₀ k₀ best k = (k ≤ held) × ((c : Setting) → best ≡ newestPlace c (fitsRead paged key (asVec page)) (λ i. recordAt n (slotAt i)) k)
+Inv-loop n held w best₀ k₀ best k = (k ≤ held) × ((c : Setting) → best ≡ newestPlace c (fits w) (λ i. recordAt n (slotAt i)) k)
 
 abbrev μ-loop : tie.MeasureT-loop
-μ-loop n held key paged page best₀ k₀ best k = held - k
+μ-loop n held w best₀ k₀ best k = held - k
 
 loop-holds : tie.Need-loop-holds Inv-loop μ-loop
 loop-holds c = (omega arith, λ d. sym (place-none d _ _))
