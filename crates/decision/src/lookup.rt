@@ -6,7 +6,8 @@ ghost use lib.Dec.{T};
 ghost use Rattle.vector.specs.Entries.{entry};
 ghost use Rattle.codec.specs.Le.{load};
 ghost use Rattle.vector.specs.Meaning.{asVec};
-ghost use Rattle.protocol.specs.Record.{Setting, partitionOf, newest};
+ghost use Rattle.protocol.specs.Record.{partitionOf};
+ghost use Rattle.protocol.specs.Shelf.{found};
 ghost use Rattle.parts.specs.Node.{heardIn, storeIn};
 ghost use Rattle.parts.specs.Session.{sessionIn};
 ghost use Rattle.parts.specs.Meaning.{asSession};
@@ -51,7 +52,7 @@ pub fn heard(t: &[u8], m: u8, p: u8) -> Vector
 // The newest record there that fits the read.
 pub fn newest(t: &[u8], m: u8, p: u8, w: Wanted) -> Found
     requires { ⌜ Long (now t) × T (wellFormed (now t)) × (m < 4) × (p < 4) ⌝ }
-    ensures { λ r. ⌜ ((c : Setting) → foundOf r ≡ newest c (fits w) (storeIn (nodeOf (siteOf (now (t .entry)) m) p))) × (r .reading .source < 4) ⌝ }
+    ensures { λ r. ⌜ (foundOf r ≡ found (settingIn (now (t .entry))) (fits w) (storeIn (nodeOf (siteOf (now (t .entry)) m) p))) × (r .reading .source < 4) ⌝ }
 {
     search::newest(places::node(t, m, p), w)
 }

@@ -15,7 +15,8 @@ use mir.Facts.{and-yes, or-yes, ltb-yes, leb-yes, eqb-yes, eqb-no}
 use Rattle.codec.proofs.Tests.{cond-elim, implies}
 use Rattle.codec.proofs.Below.{all-below-at}
 use Rattle.vector.specs.Vec.{Vec, larger, withEntry}
-use Rattle.protocol.specs.Record.{Setting, partitionOf, Rec, Msg, Update, Heartbeat, newest, ofKey, fitsPage, raisedBy}
+use Rattle.protocol.specs.Record.{Setting, partitionOf, Rec, Msg, Update, Heartbeat, ofKey, fitsPage, raisedBy}
+use Rattle.protocol.specs.Shelf.{found}
 use Rattle.protocol.specs.Times.{timeLimit, topOf}
 use Rattle.protocol.specs.State.{Mark, Page, Session, State, noPage, closed, opened, withVec, withPage}
 use Rattle.protocol.specs.Event.{Event, OPEN, CLOSE, CLOCK, GET, PUT, BEGIN, READ, END, BEAT, DELIVER}
@@ -27,7 +28,8 @@ use Rattle.protocol.specs.Step.{step}
 use Rattle.protocol.specs.Past.{_∈_}
 use Rattle.protocol.proofs.Times.{time-below-top}
 use Rattle.protocol.proofs.Judge.{Met, step-elim}
-use Rattle.protocol.proofs.Order.{NewestOf, newest-is}
+use Rattle.protocol.proofs.Order.{NewestOf}
+use Rattle.protocol.proofs.Shelf.{found-is}
 use Rattle.record.proofs.Ranges.{LawfulVec, zeros-lawful, larger-lawful, with-entry-lawful, raised-lawful, LawfulRec, LawfulMsg}
 use Rattle.lawful.specs.LawfulValues.{keysOf}
 use Rattle.lawful.proofs.LawfulValues.{LawfulPage, marks-fit, LawfulSession, LawfulState}
@@ -88,9 +90,9 @@ module _ (c : Setting) where
   with-page-lawful x g X ok = record { site = X .site; here = X .here; vec = X .vec; page = ok }
 
   -- what a search finds among lawful records raises a lawful vector to one
-  found-lawful : (p : ℕ) (l : List Rec) (fit : Rec → Bool) (v : Vec) → ((r : Rec) → r ∈ l → LawfulRec c p r) → LawfulVec c v → LawfulVec c (raisedBy v (newest c fit l))
+  found-lawful : (p : ℕ) (l : List Rec) (fit : Rec → Bool) (v : Vec) → ((r : Rec) → r ∈ l → LawfulRec c p r) → LawfulVec c v → LawfulVec c (raisedBy v (found c fit l))
   unfolding raisedBy NewestOf
-  found-lawful p l fit v all ok = go (newest c fit l) (newest-is c fit l)
+  found-lawful p l fit v all ok = go (found c fit l) (found-is c fit l)
     where
       go : (o : Option Rec) → NewestOf c fit l o → LawfulVec c (raisedBy v o)
       go none n = ok
@@ -183,7 +185,7 @@ module _ (S : State) (ok : LawfulState S) where
     page-set : (g : Page) → LawfulPage c g → LawfulAll (SetSession s (withPage x g) ∷ []) S
     page-set g a = ((h, with-page-lawful c x g (ok .session s h) a), tt)
 
-    raised-set : (k : ℕ) (fit : Rec → Bool) (v : Vec) → LawfulVec c v → LawfulVec c (raisedBy v (newest c fit (S .net .store (x .site) (partitionOf c k))))
+    raised-set : (k : ℕ) (fit : Rec → Bool) (v : Vec) → LawfulVec c v → LawfulVec c (raisedBy v (found c fit (S .net .store (x .site) (partitionOf c k))))
     raised-set k fit v a =
         let p = partitionOf c k in
         found-lawful c p (S .net .store (x .site) p) fit v (ok .store (x .site) p real (omega (arith, part-lt k, ok .partitions))) a
@@ -222,7 +224,7 @@ module _ (S : State) (ok : LawfulState S) where
   serve-lawful (GET s k) r t =
       let h : s < 16 = ltb-yes (r .0) in
       let X = ok .session s h in
-      let v = raisedBy (S .session s .vec) (newest c (ofKey k) (S .net .store (S .session s .site) (partitionOf c k))) in
+      let v = raisedBy (S .session s .vec) (found c (ofKey k) (S .net .store (S .session s .site) (partitionOf c k))) in
       vec-set s h (t .0) v (raised-set s h (t .0) k (ofKey k) (S .session s .vec) (X .vec))
   serve-lawful (PUT s k q l) r t =
       let m = S .session s .site in
@@ -242,7 +244,7 @@ module _ (S : State) (ok : LawfulState S) where
       let X = ok .session s h in
       let g = S .session s .page in
       let fit = fitsPage k (g .vec) in
-      let o = newest c fit (S .net .store (S .session s .site) (partitionOf c k)) in
+      let o = found c fit (S .net .store (S .session s .site) (partitionOf c k)) in
       page-set s h (t .0) (readOn g k o)
       (read-lawful c g k o (t .1 .0) (X .page) (raised-set s h (t .0) k fit (g .gathered) (X .page .gathered)))
   serve-lawful (END s) r t =

@@ -4,7 +4,8 @@ use mathlib.Core.Path.{_≡_, sym, ap, subst, _∙_}
 use mathlib.Core.Bool.{Bool, true, false, not}
 use mathlib.Core.List.{List, [], List·Memᴰ·not-nil}
 use lib.Dec.{T}
-use Rattle.protocol.specs.Record.{Setting, partitionOf, Id, Rec, newest, ofKey}
+use Rattle.protocol.specs.Record.{Setting, partitionOf, Id, Rec, ofKey}
+use Rattle.protocol.specs.Shelf.{found}
 use Rattle.protocol.specs.State.{Session, State, setup}
 use Rattle.protocol.specs.Event.{GET, Answer, Refusal, Refused, shown}
 use Rattle.protocol.specs.Needs.{needs}
@@ -14,7 +15,7 @@ use Rattle.protocol.specs.Past.{_∈_, Write, Entry, History, served, sh
 use Rattle.protocol.specs.Causal.{Covers, CoversAll, Genuine, GetCausal, PageCausal}
 use Rattle.protocol.specs.Promises.{CausalGet, CausalPage}
 use Rattle.protocol.proofs.Setting.{run-setting}
-use Rattle.protocol.proofs.Order.{newest-is}
+use Rattle.protocol.proofs.Shelf.{found-is}
 use Rattle.protocol.proofs.Judge.{step-elim}
 use Rattle.protocol.proofs.Invariant.{Below, AllBelow, Shows, PageInv, Told, Inv}
 use Rattle.protocol.proofs.Sessions.{below-up, writer-below, search-shows, get-covers}
@@ -39,9 +40,9 @@ inv-get S h J s k = step-elim S (GET s k) (λ o. GetCausal (S .net .setting) h s
     (λ r t. let N = S .net in
     let x = S .session s in
     let p = partitionOf (N .setting) k in
-    let o = newest (N .setting) (ofKey k) (N .store (x .site) p) in
+    let o = found (N .setting) (ofKey k) (N .store (x .site) p) in
     record {
-      genuine = genuine-is (h .writes) (J .all) (J .told) k (shown o) (search-shows N (J .all) (J .net) k (ofKey k) (λ r u. u) (x .site) p o (newest-is (N .setting) (ofKey k) (N .store (x .site) p)));
+      genuine = genuine-is (h .writes) (J .all) (J .told) k (shown o) (search-shows N (J .all) (J .net) k (ofKey k) (λ r u. u) (x .site) p o (found-is (N .setting) (ofKey k) (N .store (x .site) p)));
       covers = λ a. get-covers N (J .all) (J .net) (h .of s) x (J .sessions s) (t .0) k (t .1 .1 .0);
     })
 

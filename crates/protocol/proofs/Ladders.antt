@@ -10,7 +10,8 @@ use lib.ListN.{length}
 use lib.IntN.{ℤ}
 use borrow.Author.Tests.{lt-ltb}
 use Rattle.vector.specs.Vec.{larger, withEntry}
-use Rattle.protocol.specs.Record.{partitionOf, Msg, Update, Heartbeat, newest, ofKey, fitsPage, raisedBy}
+use Rattle.protocol.specs.Record.{partitionOf, Msg, Update, Heartbeat, ofKey, fitsPage, raisedBy}
+use Rattle.protocol.specs.Shelf.{found}
 use Rattle.protocol.specs.State.{Session, noPage, closed, opened, withVec, withPage}
 use Rattle.protocol.specs.Event.{OPEN, CLOSE, CLOCK, GET, PUT, BEGIN, READ, END, BEAT, DELIVER, Answer, Done, Stamped, Refused, plain, shown}
 use Rattle.protocol.specs.View.{View}
@@ -67,7 +68,7 @@ module _ (v : View) where
   abbrev pub getOf : (s k : ℕ) → Outcome
   getOf s k =
       let p = partitionOf (v .setting) k in
-      let o = newest (v .setting) (ofKey k) (v .store p) in
+      let o = found (v .setting) (ofKey k) (v .store p) in
       ifNoPage x (cond (getReady (x .site) (v .heard p) (x .vec)) (keeps (shown o) s (withVec x (raisedBy (x .vec) o))) (refuse 3))
 
   pub get-judged : (s k : ℕ) → judged v (GET s k) ≡ getOf s k
@@ -100,7 +101,7 @@ module _ (v : View) where
   readOf s k =
       let p = partitionOf (v .setting) k in
       let g = x .page in
-      let o = newest (v .setting) (fitsPage k (g .vec)) (v .store p) in
+      let o = found (v .setting) (fitsPage k (g .vec)) (v .store p) in
       ifPage x (cond (awaited k (g .marks)) (cond (readReady (v .heard p) (g .vec)) (keeps (shown o) s (withPage x (readOn g k o))) (refuse 3)) (refuse 16))
 
   pub read-judged : (s k : ℕ) → judged v (READ s k) ≡ readOf s k

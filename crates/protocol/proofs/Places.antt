@@ -1,4 +1,4 @@
--- The search by places is the protocol's search for the newest. In order: what is found at the place is the newest, the cases of one more record,
+-- The search by places is the protocol's search for the newest. In order: what stands at the place is the newest, the cases of one more record,
 -- the place's range, that the record there fits, and what fits a read of either kind.
 use Prim.Native.Nat.{ℕ, zero, suc, _+_, _-_, _≤_}
 use native.Mathlib.Numerals.{add-one}
@@ -12,54 +12,54 @@ use borrow.Author.Tests.{eq-eqb, ne-eqb}
 use Rattle.codec.specs.Tabulate.{tabulate}
 use Rattle.codec.proofs.Tabulate.{tab-more}
 use Rattle.protocol.specs.Record.{Setting, Rec, newer, newest}
-use Rattle.protocol.specs.Search.{betterPlace, newestPlace, found}
+use Rattle.protocol.specs.Search.{betterPlace, newestPlace, placed}
 use Rattle.protocol.proofs.Search.{laterOf, newest-snoc}
 
 module _ (c : Setting) (fit : Rec → Bool) (f : ℕ → Rec) where
   -- one more record behind those before it, as the list and as the place have it
-  later-is-better : (n b : ℕ) → cond (fit (f n)) (some (laterOf c (f n) (found f b))) (found f b) ≡ found f (betterPlace c fit f n b)
-  unfolding laterOf found betterPlace
+  later-is-better : (n b : ℕ) → cond (fit (f n)) (some (laterOf c (f n) (placed f b))) (placed f b) ≡ placed f (betterPlace c fit f n b)
+  unfolding laterOf placed betterPlace
   later-is-better n zero = go (fit (f n))
     where
-      go : (a : Bool) → cond a (some (f n)) none ≡ found f (cond (a && true) (suc n) 0)
+      go : (a : Bool) → cond a (some (f n)) none ≡ placed f (cond (a && true) (suc n) 0)
       go true = refl
       go false = refl
   later-is-better n (suc i) =
       let e : suc i - 1 ≡ i = omega arith in
       rw (e, eqb·suc-zero i) (go (fit (f n)) (newer c (f n .id) (f i .id)))
     where
-      go : (a d : Bool) → cond a (some (cond d (f n) (f i))) (some (f i)) ≡ found f (cond (a && d) (suc n) (suc i))
+      go : (a d : Bool) → cond a (some (cond d (f n) (f i))) (some (f i)) ≡ placed f (cond (a && d) (suc n) (suc i))
       go true true = refl
       go true false = refl
       go false d = refl
 
-  pub newest-is-found : (n : ℕ) → newest c fit (tabulate n f) ≡ found f (newestPlace c fit f n)
-  unfolding tabulate newest newestPlace found
-  newest-is-found zero = refl
-  newest-is-found (suc n) =
+  pub newest-is-placed : (n : ℕ) → newest c fit (tabulate n f) ≡ placed f (newestPlace c fit f n)
+  unfolding tabulate newest newestPlace placed
+  newest-is-placed zero = refl
+  newest-is-placed (suc n) =
       ap (λ (k : ℕ). newest c fit (tabulate k f)) (sym (add-one n))
       ∙ ap (newest c fit) (tab-more n f f (f n) (λ i h. refl) refl)
       ∙ newest-snoc c fit (tabulate n f) (f n)
-      ∙ ap (λ o. cond (fit (f n)) (some (laterOf c (f n) o)) o) (newest-is-found n)
+      ∙ ap (λ o. cond (fit (f n)) (some (laterOf c (f n) o)) o) (newest-is-placed n)
       ∙ later-is-better n (newestPlace c fit f n)
 
-  found-none : (b : ℕ) → b ≡ 0 → found f b ≡ none
-  unfolding found
-  found-none b z = rw z
+  placed-none : (b : ℕ) → b ≡ 0 → placed f b ≡ none
+  unfolding placed
+  placed-none b z = rw z
 
-  found-some : (b : ℕ) → (b ≡ 0 → ⊥) → found f b ≡ some (f (b - 1))
-  unfolding found
-  found-some zero z = absurd (z refl)
-  found-some (suc i) z =
+  placed-some : (b : ℕ) → (b ≡ 0 → ⊥) → placed f b ≡ some (f (b - 1))
+  unfolding placed
+  placed-some zero z = absurd (z refl)
+  placed-some (suc i) z =
       let e : suc i - 1 ≡ i = omega arith in
       rw e
 
   module _ (n b : ℕ) (e : b ≡ newestPlace c fit f n) where
     pub newest-none : b ≡ 0 → newest c fit (tabulate n f) ≡ none
-    newest-none z = newest-is-found n ∙ ap (found f) (sym e) ∙ found-none b z
+    newest-none z = newest-is-placed n ∙ ap (placed f) (sym e) ∙ placed-none b z
 
     pub newest-some : (b ≡ 0 → ⊥) → newest c fit (tabulate n f) ≡ some (f (b - 1))
-    newest-some z = newest-is-found n ∙ ap (found f) (sym e) ∙ found-some b z
+    newest-some z = newest-is-placed n ∙ ap (placed f) (sym e) ∙ placed-some b z
 
   -- ---- the four cases of one more record
 
@@ -102,7 +102,7 @@ module _ (c : Setting) (fit : Rec → Bool) (f : ℕ → Rec) where
   place-at-most zero = omega arith
   place-at-most (suc n) = better-at-most n (newestPlace c fit f n) (place-at-most n)
 
-  -- what is found at place b fits
+  -- what stands at place b fits
   abbrev Fitting : ℕ → Type 0
   Fitting b = b ≢ 0 → T (fit (f (b - 1)))
 

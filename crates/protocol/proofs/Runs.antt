@@ -6,7 +6,7 @@ use lib.IntN.{ℤ, pos, negsuc}
 use Rattle.codec.specs.Below.{allBelow}
 use Rattle.vector.specs.Vec.{atMost, atMostBut, largestOf, largest, withEntry, atLeast, larger, raised}
 use Rattle.protocol.specs.Record.{stampIn, recordsIn, rank, newer, newerOf, newest, ofKey, fitsPage, raisedBy}
-use Rattle.protocol.specs.Shelf.{shelve}
+use Rattle.protocol.specs.Shelf.{shelve, found}
 use Rattle.protocol.specs.State.{noPage, closed, opened, setup}
 use Rattle.protocol.specs.Event.{Event, OPEN, CLOSE, CLOCK, GET, PUT, BEGIN, READ, END, BEAT, DELIVER, Answer, Done, Stamped, Value, Refused, plain, shown}
 use Rattle.protocol.specs.Needs.{levelLawful, keysLawful, ranges, getReady, putReady, readReady, beatSends, storeRoom, sendRoom, frontUpdates, distinct, awaited, allRead, needs}
@@ -20,7 +20,7 @@ answers (l ∷ ls) = l .says ∷ answers ls
 
 -- a proof that unfolds this lets the checker compute whole runs
 unfoldable pub computing : Unit {0}
-unfolding answers log step decide judge judged next serve needs ranges allBelow atMost atMostBut largestOf largest withEntry atLeast larger raised stampIn recordsIn rank newer newerOf newest ofKey fitsPage raisedBy noPage closed opened setup plain shown levelLawful keysLawful getReady putReady readReady beatSends storeRoom sendRoom frontUpdates distinct awaited allRead shelve upd at setClock publish receive apply applyAll written unread markRead begun readOn taken
+unfolding answers log step decide judge judged next serve needs ranges allBelow atMost atMostBut largestOf largest withEntry atLeast larger raised stampIn recordsIn rank newer newerOf newest ofKey fitsPage raisedBy noPage closed opened setup plain shown levelLawful keysLawful getReady putReady readReady beatSends storeRoom sendRoom frontUpdates distinct awaited allRead shelve found upd at setClock publish receive apply applyAll written unread markRead begun readOn taken
 computing = tt
 
 abbrev pub refused : ℕ → Answer

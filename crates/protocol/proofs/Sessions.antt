@@ -12,7 +12,8 @@ use mir.Facts.{T-not, and-yes, yes-and, eqb-yes}
 use Rattle.codec.proofs.Tests.{cond-elim, yes-eqb}
 use Rattle.vector.specs.Vec.{Vec, width, atMost, larger}
 use Rattle.vector.proofs.Vec.{LeV, le-trans, at-most-le, le-at-most, at-most-but-le, larger-left, larger-right, raised-carried, raised-stamp}
-use Rattle.protocol.specs.Record.{Setting, partitionOf, Id, Rec, newest, ofKey, fitsPage, raisedBy}
+use Rattle.protocol.specs.Record.{Setting, partitionOf, Id, Rec, ofKey, fitsPage, raisedBy}
+use Rattle.protocol.specs.Shelf.{found}
 use Rattle.protocol.specs.State.{Net, Session, noPage, withVec, withPage}
 use Rattle.protocol.specs.Event.{Answer, shown}
 use Rattle.protocol.specs.Needs.{getReady, readReady}
@@ -20,7 +21,8 @@ use Rattle.protocol.specs.Change.{upd}
 use Rattle.protocol.specs.Serve.{begun, readOn}
 use Rattle.protocol.specs.Past.{_∈_, Write, Entry, Story, shownIn, shownOn, sameId, writerPast, withPasts}
 use Rattle.protocol.specs.Causal.{NoOlder, Covers, CoversAll}
-use Rattle.protocol.proofs.Order.{NewestOf, newest-is, raised-by-up}
+use Rattle.protocol.proofs.Order.{NewestOf, raised-by-up}
+use Rattle.protocol.proofs.Shelf.{found-is}
 use Rattle.protocol.proofs.Invariant.{ascending-le, NetInv, heard-stored, Below, AllBelow, Shows, EntryInv, SessionInv, WriteInv, Later}
 
 -- ---- what a vector answers for
@@ -215,14 +217,14 @@ module _ (N : Net) (W : List Rec) (I : NetInv N W) (h : Story) (x : Session) (S 
           subst (λ m. r .id .stamp ≤ N .heard m (partitionOf (N .setting) k) (r .id .source)) u a
       go (inr u) = omega arith
 
-  pub get-covers : (k : ℕ) → T (getReady (x .site) (heardHere k) (x .vec)) → CoversAll (N .setting) k (shown (newest (N .setting) (ofKey k) (storeHere k))) (h .past)
+  pub get-covers : (k : ℕ) → T (getReady (x .site) (heardHere k) (x .vec)) → CoversAll (N .setting) k (shown (found (N .setting) (ofKey k) (storeHere k))) (h .past)
   unfolding CoversAll AllBelow ofKey
   get-covers k t y m e =
       let b = S .past y m in
       let f : b .rec .id .key ≡ k = ap (λ i. i .key) (b .same) ∙ e in
       let s = stored-here k (b .rec) (b .mem) f (get-heard k t (b .rec) (b .mem) f (b .heard)) in
-      subst (Covers (N .setting) k (shown (newest (N .setting) (ofKey k) (storeHere k)))) (b .same)
-      (search-covers (N .setting) k (ofKey k) (λ r u. u) (storeHere k) (newest (N .setting) (ofKey k) (storeHere k)) (newest-is (N .setting) (ofKey k) (storeHere k)) (b .rec) s
+      subst (Covers (N .setting) k (shown (found (N .setting) (ofKey k) (storeHere k)))) (b .same)
+      (search-covers (N .setting) k (ofKey k) (λ r u. u) (storeHere k) (found (N .setting) (ofKey k) (storeHere k)) (found-is (N .setting) (ofKey k) (storeHere k)) (b .rec) s
       (yes-eqb (b .rec .id .key) k f))
 
   pub get-session : (ws : List Write) → ((w : Write) → w ∈ ws → WriteInv W w) → (k : ℕ) → T (not (x .page .isOpen)) → (o : Option Rec) → NewestOf (N .setting) (ofKey k) (storeHere k) o →

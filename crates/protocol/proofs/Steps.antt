@@ -13,7 +13,8 @@ use mir.Facts.{T-not, ltb-yes}
 use Rattle.codec.proofs.Tests.{cond-elim}
 use Rattle.vector.specs.Vec.{Vec, width, zeros, largest, larger, withEntry}
 use Rattle.vector.proofs.Vec.{LeV, le-largest, with-entry-same, with-entry-up}
-use Rattle.protocol.specs.Record.{Setting, partitionOf, Id, Rec, Msg, Update, Heartbeat, stampIn, recordsIn, newest, ofKey, fitsPage, raisedBy}
+use Rattle.protocol.specs.Record.{Setting, partitionOf, Id, Rec, Msg, Update, Heartbeat, stampIn, recordsIn, ofKey, fitsPage, raisedBy}
+use Rattle.protocol.specs.Shelf.{found}
 use Rattle.protocol.specs.State.{Net, Session, State, noPage, closed, opened, withVec, withPage, setup}
 use Rattle.protocol.specs.Event.{Event, OPEN, CLOSE, CLOCK, GET, PUT, BEGIN, READ, END, BEAT, DELIVER, Answer, shown}
 use Rattle.protocol.specs.View.{view}
@@ -22,7 +23,7 @@ use Rattle.protocol.specs.Change.{SetSession, Publish, apply, applyAll, 
 use Rattle.protocol.specs.Serve.{written, begun, readOn, taken, serve}
 use Rattle.protocol.specs.Step.{step, next, after, log}
 use Rattle.protocol.specs.Past.{_∈_, Write, Entry, History, served, shownIn, shownOn, withPasts, tell, wrote, noteServed, note, start, retell, history}
-use Rattle.protocol.proofs.Order.{newest-is}
+use Rattle.protocol.proofs.Shelf.{found-is}
 use Rattle.protocol.proofs.Judge.{Met, step-elim}
 use Rattle.protocol.proofs.Invariant.{Ascending, home, NetInv, Below, SessionInv, WriteInv, Told, Inv, Later}
 use Rattle.protocol.proofs.Network.{publish-inv, publish-later, receive-inv, receive-later, clock-inv, clock-later}
@@ -170,11 +171,11 @@ serve-inv S h J (GET s k) r t =
     let N = S .net in
     let x = S .session s in
     let l = N .store (x .site) (partitionOf (N .setting) k) in
-    let o = newest (N .setting) (ofKey k) l in
+    let o = found (N .setting) (ofKey k) l in
     let y = withVec x (raisedBy (x .vec) o) in
     note-served (Inv (apply (SetSession s y) S)) h (GET s k) (shown o) (shown-served o)
     (session-inv S h J s (withPasts (h .writes) (shownIn k (shown o)) ++ h .of s .past) (h .of s .page) y
-    (get-session N (J .all) (J .net) (h .of s) x (J .sessions s) (t .0) (h .writes) (J .writes) k (t .1 .0) o (newest-is (N .setting) (ofKey k) l)))
+    (get-session N (J .all) (J .net) (h .of s) x (J .sessions s) (t .0) (h .writes) (J .writes) k (t .1 .0) o (found-is (N .setting) (ofKey k) l)))
 serve-inv S h J (PUT s k q l) r t =
     let x = S .session s in
     let p = partitionOf (S .net .setting) k in
@@ -190,11 +191,11 @@ serve-inv S h J (READ s k) r t =
     let N = S .net in
     let x = S .session s in
     let l = N .store (x .site) (partitionOf (N .setting) k) in
-    let o = newest (N .setting) (fitsPage k (x .page .vec)) l in
+    let o = found (N .setting) (fitsPage k (x .page .vec)) l in
     let y = withPage x (readOn (x .page) k o) in
     note-served (Inv (apply (SetSession s y) S)) h (READ s k) (shown o) (shown-served o)
     (session-inv S h J s (h .of s .past) (record { key = k; says = shown o } ∷ h .of s .page) y
-    (read-session N (J .all) (J .net) (h .of s) x (J .sessions s) (t .0) k (t .1 .1 .1 .0) (t .1 .0) o (newest-is (N .setting) (fitsPage k (x .page .vec)) l)))
+    (read-session N (J .all) (J .net) (h .of s) x (J .sessions s) (t .0) k (t .1 .1 .1 .0) (t .1 .0) o (found-is (N .setting) (fitsPage k (x .page .vec)) l)))
 serve-inv S h J (END s) r t =
     let x = S .session s in
     session-inv S h J s (withPasts (h .writes) (shownOn (h .of s .page)) ++ h .of s .past) [] (withPage (withVec x (larger (x .vec) (x .page .gathered))) noPage)

@@ -8,7 +8,8 @@ use mathlib.Core.Option.{Option, some, none}
 use lib.Dec.{leb, ltb}
 use lib.IntN.{pos}
 use Rattle.vector.specs.Vec.{Vec, largest, withEntry, atLeast}
-use Rattle.protocol.specs.Record.{Setting, partitionOf, Id, Rec, Update, newest, ofKey, fitsPage, raisedBy}
+use Rattle.protocol.specs.Record.{Setting, partitionOf, Id, Rec, Update, ofKey, fitsPage, raisedBy}
+use Rattle.protocol.specs.Shelf.{found}
 use Rattle.protocol.specs.State.{Session, State, withVec, withPage, setup}
 use Rattle.protocol.specs.Event.{Event, OPEN, CLOSE, CLOCK, GET, PUT, BEGIN, READ, END, BEAT, DELIVER, Answer, Stamped, Nothing, shown}
 use Rattle.protocol.specs.View.{View, view}
@@ -40,7 +41,7 @@ judgedBy R v (CLOSE s) = judged v (CLOSE s)
 judgedBy R v (CLOCK m p t) = judged v (CLOCK m p t)
 judgedBy R v (GET s k) =
     let x = v .session in
-    let o = newest (v .setting) (ofKey k) (v .store (partitionOf (v .setting) k)) in
+    let o = found (v .setting) (ofKey k) (v .store (partitionOf (v .setting) k)) in
     judge (needs v (GET s k)) (shown o and SetSession s (withVec x (R .raises (x .vec) o)) ∷ [])
 judgedBy R v (PUT s k q l) =
     let x = v .session in
@@ -53,7 +54,7 @@ judgedBy R v (PUT s k q l) =
 judgedBy R v (BEGIN s p ks) = judged v (BEGIN s p ks)
 judgedBy R v (READ s k) =
     let x = v .session in
-    let o = newest (v .setting) (R .fits k (x .page .vec)) (v .store (partitionOf (v .setting) k)) in
+    let o = found (v .setting) (R .fits k (x .page .vec)) (v .store (partitionOf (v .setting) k)) in
     judge (needs v (READ s k)) (shown o and SetSession s (withPage x (readOn (x .page) k o)) ∷ [])
 judgedBy R v (END s) = judged v (END s)
 judgedBy R v (BEAT m p) = judged v (BEAT m p)

@@ -14,6 +14,7 @@ unfoldable pub newestPlace : Setting → (Rec → Bool) → (ℕ → Rec) → �
 newestPlace c fit f zero = 0
 newestPlace c fit f (suc n) = betterPlace c fit f n (newestPlace c fit f n)
 
-unfoldable pub found : (ℕ → Rec) → ℕ → Option Rec
-found f zero = none
-found f (suc i) = some (f i)
+-- what stands at a place
+unfoldable pub placed : (ℕ → Rec) → ℕ → Option Rec
+placed f zero = none
+placed f (suc i) = some (f i)

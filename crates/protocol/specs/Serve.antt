@@ -6,7 +6,8 @@ use mathlib.Core.Option.{Option}
 use lib.Dec.{eqb}
 use lib.IntN.{ℤ}
 use Rattle.vector.specs.Vec.{Vec, zeros, larger, withEntry}
-use Rattle.protocol.specs.Record.{partitionOf, Rec, Msg, Update, Heartbeat, newest, ofKey, fitsPage, raisedBy}
+use Rattle.protocol.specs.Record.{partitionOf, Rec, Msg, Update, Heartbeat, ofKey, fitsPage, raisedBy}
+use Rattle.protocol.specs.Shelf.{found}
 use Rattle.protocol.specs.State.{Mark, Page, Session, noPage, closed, opened, withVec, withPage}
 use Rattle.protocol.specs.Event.{Event, OPEN, CLOSE, CLOCK, GET, PUT, BEGIN, READ, END, BEAT, DELIVER, Answer, Done, Stamped, shown}
 use Rattle.protocol.specs.View.{View}
@@ -48,7 +49,7 @@ serve v (CLOSE s) = Done and SetSession s closed ∷ []
 serve v (CLOCK m p t) = Done and SetClock m p t ∷ []
 serve v (GET s k) =
     let x = v .session in
-    let o = newest (v .setting) (ofKey k) (v .store (partitionOf (v .setting) k)) in
+    let o = found (v .setting) (ofKey k) (v .store (partitionOf (v .setting) k)) in
     shown o and SetSession s (withVec x (raisedBy (x .vec) o)) ∷ []
 serve v (PUT s k q l) =
     let x = v .session in
@@ -62,7 +63,7 @@ serve v (BEGIN s p ks) =
     Done and SetSession s (withPage x (begun (v .heard p) (x .vec) ks)) ∷ []
 serve v (READ s k) =
     let x = v .session in
-    let o = newest (v .setting) (fitsPage k (x .page .vec)) (v .store (partitionOf (v .setting) k)) in
+    let o = found (v .setting) (fitsPage k (x .page .vec)) (v .store (partitionOf (v .setting) k)) in
     shown o and SetSession s (withPage x (readOn (x .page) k o)) ∷ []
 serve v (END s) =
     let x = v .session in

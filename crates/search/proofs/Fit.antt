@@ -1,12 +1,11 @@
 -- What fits a read, in the protocol's words: for a GET, and on a page.
-use Prim.Native.Nat.{ℕ, _-_}
+use Prim.Native.Nat.{ℕ}
 use mathlib.Core.Path.{_≡_, refl, fun-ext}
 use mathlib.Core.Bool.{Bool, true, false, _&&_}
 use Rattle.vector.specs.Meaning.{asVec}
 use Rattle.vector.specs.declared.Vector.{Vector}
 use Rattle.protocol.specs.Record.{ofKey, fitsPage}
 use Rattle.search.specs.Found.{fits}
-use Rattle.search.specs.declared.Wanted.{Wanted}
 
 pub fits-get : (k : ℕ) (v : Vector) → fits (record { key = k; paged = false; snapshot = v }) ≡ ofKey k
 unfolding fits

@@ -4,7 +4,6 @@ use mathlib.Core.Option.{Option, some, none}
 use Rattle.vector.specs.Vec.{atMost}
 use Rattle.vector.specs.Meaning.{asVec}
 use Rattle.protocol.specs.Record.{Rec, ofKey}
-use Rattle.protocol.specs.Search.{found}
 use Rattle.record.specs.Meaning.{asRecord}
 use Rattle.search.specs.declared.Wanted.{Wanted}
 use Rattle.search.specs.declared.Found.{Found}

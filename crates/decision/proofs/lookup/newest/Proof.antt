@@ -1,8 +1,10 @@
 -- `decision::lookup::newest` meets its contract, by what the lent node says.
 use Prim.Native.Nat.{ℕ, _≤_, _<_}
 use mathlib.Core.Path.{sym, subst}
+use Rattle.protocol.proofs.Shelf.{found-newest}
 use Rattle.record.specs.RecordBytes.{recordAt}
 use Rattle.parts.specs.Node.{slotAt, heldIn}
+use Rattle.table.specs.Decode.{settingIn}
 use Rattle.decision.proofs.Formed.{node-held, node-source}
 use Rattle.decision.proofs.lookup.newest.Statement.{statement}
 use Rattle.decision.proofs.lookup.newest.Tie as tie
@@ -23,7 +25,9 @@ newest-requires c κs =
     )
 
 returns : tie.Need-returns
-returns c = (λ d. rw (sym (c .before .node .ensures .0)) (c .newest .ensures .0 d), c .newest .ensures .1)
+returns c =
+    let t = c .before .before .before .args .t .now in
+    (rw (found-newest, sym (c .before .node .ensures .0)) (c .newest .ensures .0 (settingIn t)), c .newest .ensures .1)
 
 pub newest-spec : {M : Type 1} → statement M
 newest-spec = tie.close (tie.spec node-requires newest-requires returns)

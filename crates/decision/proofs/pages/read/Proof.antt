@@ -4,7 +4,8 @@ use mathlib.Core.Bool.{true}
 use borrow.Author.Tests.{not-true, not-false}
 use borrow.Author.Needs.{needs}
 use Rattle.vector.specs.Meaning.{asVec}
-use Rattle.protocol.specs.Record.{newest, fitsPage}
+use Rattle.protocol.specs.Record.{fitsPage}
+use Rattle.protocol.specs.Shelf.{found}
 use Rattle.protocol.specs.Event.{READ}
 use Rattle.protocol.specs.Needs.{readReady}
 use Rattle.protocol.proofs.Ladders.{if-page, readOf}
@@ -48,11 +49,11 @@ ready c = c .at-most .ensures ∙ rw (c .before .heard .ensures, c .before .befo
 shows : (c : tie.After-newest) → let k = loaded (c .before .before .before .before .before) in
     let x = k .session .result in
     let a = k .before .before .args in
-    foundOf (c .newest .result) ≡ newest (settingIn (a .t .now)) (fitsPage (a .k) (asVec (x .snapshot))) (storedBy (a .t .now) (x .site) (a .k))
+    foundOf (c .newest .result) ≡ found (settingIn (a .t .now)) (fitsPage (a .k) (asVec (x .snapshot))) (storedBy (a .t .now) (x .site) (a .k))
 unfolding loaded
 shows c =
     let k = loaded (c .before .before .before .before .before) in
-    c .newest .ensures .0 (settingIn (k .before .before .args .t .now)) ∙ rw (fits-page, c .before .before .before .before .partition .ensures .0)
+    c .newest .ensures .0 ∙ rw (fits-page, c .before .before .before .before .partition .ensures .0)
 
 -- ---- the needs
 

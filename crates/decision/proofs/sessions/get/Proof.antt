@@ -4,7 +4,8 @@ use mathlib.Core.Bool.{true}
 use borrow.Author.Tests.{not-true, not-false}
 use borrow.Author.Needs.{needs}
 use Rattle.vector.specs.Meaning.{asVec}
-use Rattle.protocol.specs.Record.{newest, ofKey}
+use Rattle.protocol.specs.Record.{ofKey}
+use Rattle.protocol.specs.Shelf.{found}
 use Rattle.protocol.specs.Event.{GET}
 use Rattle.protocol.specs.Needs.{getReady}
 use Rattle.protocol.proofs.Ladders.{if-no-page, getOf}
@@ -44,11 +45,11 @@ ready c = c .at-most-but .ensures ∙ rw (c .before .heard .ensures, c .before .
 -- and what is found the newest of its records
 shows : (c : tie.After-newest) → let k = loaded (c .before .before .before .before .before) in
     let a = k .before .before .args in
-    foundOf (c .newest .result) ≡ newest (settingIn (a .t .now)) (ofKey (a .k)) (storedBy (a .t .now) (k .session .result .site) (a .k))
+    foundOf (c .newest .result) ≡ found (settingIn (a .t .now)) (ofKey (a .k)) (storedBy (a .t .now) (k .session .result .site) (a .k))
 unfolding loaded
 shows c =
     let k = loaded (c .before .before .before .before .before) in
-    c .newest .ensures .0 (settingIn (k .before .before .args .t .now)) ∙ rw (fits-get, c .before .before .before .before .partition .ensures .0)
+    c .newest .ensures .0 ∙ rw (fits-get, c .before .before .before .before .partition .ensures .0)
 
 -- ---- the needs
 
