@@ -51,9 +51,7 @@ shows : (c : tie.After-newest) → let k = loaded (c .before .before .before .be
     let a = k .before .before .args in
     foundOf (c .newest .result) ≡ found (settingIn (a .t .now)) (fitsPage (a .k) (asVec (x .snapshot))) (storedBy (a .t .now) (x .site) (a .k))
 unfolding loaded
-shows c =
-    let k = loaded (c .before .before .before .before .before) in
-    c .newest .ensures .0 ∙ rw (fits-page, c .before .before .before .before .partition .ensures .0)
+shows c = c .newest .ensures .0 ∙ rw (fits-page, c .before .before .before .before .partition .ensures .0)
 
 -- ---- the needs
 

@@ -47,9 +47,7 @@ shows : (c : tie.After-newest) → let k = loaded (c .before .before .before .be
     let a = k .before .before .args in
     foundOf (c .newest .result) ≡ found (settingIn (a .t .now)) (ofKey (a .k)) (storedBy (a .t .now) (k .session .result .site) (a .k))
 unfolding loaded
-shows c =
-    let k = loaded (c .before .before .before .before .before) in
-    c .newest .ensures .0 ∙ rw (fits-get, c .before .before .before .before .partition .ensures .0)
+shows c = c .newest .ensures .0 ∙ rw (fits-get, c .before .before .before .before .partition .ensures .0)
 
 -- ---- the needs
 
