@@ -38,7 +38,7 @@ held-heard n i x h = load-put-other 1 8 n (8 + 8 * i) x 40 (λ k a b c d. omega 
 
 twin-stored : (x : Msg) {s s′ r r′ : List ℕ} → Twin s s′ r r′ → heldIn s′ ≡ heldIn r′ → Twin s (stored x s′) r (stored x r′)
 unfolding stored
-twin-stored (Update q) {s} {s′} {r} {r′} a e = rw e (twin-put 1 40 (heldIn r′ + 1) (twin-putRecord (slotAt (heldIn r′)) q a))
+twin-stored (Update q) {s} {s′} {r} {r′} a e = rw e (twin-put 1 40 (heldIn r′ + 1) (twin-putRecord (slotAt (heldIn r′)) 1 q a))
 twin-stored (Heartbeat t) a e = a
 
 module _ (n k : List ℕ) (i : ℕ) (h : i < 4) (x : Msg) (l : length n ≡ length k) (e : heldIn n ≡ heldIn k) where

@@ -6,19 +6,17 @@ use native.Mathlib.Omega.{arith}
 use mathlib.Core.Path.{_≡_, refl, sym, ap, subst, _∙_}
 use mathlib.Core.Logic.{_⊎_, inl, inr}
 use mathlib.Core.List.{List, [], _∷_}
-use lib.IntN.{ℤ, pos}
-use lib.ListN.{length, getD, set, drop, length-set}
-use lib.Seq.{getD-take, getD-drop}
+use lib.ListN.{length, getD, set, length-set}
 use Rattle.codec.specs.Le.{put}
-use Rattle.codec.specs.Level.{bitsOf}
+use Rattle.codec.specs.Fields.{Field, field, putAll}
 use Rattle.codec.specs.Part.{partOf, onPart, Keeps}
 use Rattle.codec.proofs.Part.{length-onPart, part-onPart, getD-onPart, getD-part}
-use Rattle.vector.specs.Vec.{Vec, width, zeros}
+use Rattle.vector.specs.Vec.{Vec, width}
 use Rattle.vector.specs.Entries.{putFirst, putVec}
 use Rattle.protocol.specs.Record.{Rec, Msg, Update, Heartbeat}
 use Rattle.protocol.specs.State.{Mark, Session}
-use Rattle.record.specs.RecordBytes.{putFields, putRecord, putMessage}
-use Rattle.parts.specs.Session.{flag, putMarks, putSession}
+use Rattle.record.specs.RecordBytes.{recordFields, putRecord, beat, putMessage}
+use Rattle.parts.specs.Session.{flag, putMarks, headFields, putSession}
 use Rattle.table.specs.Parts.{Long, sessionAt, siteAt, nodeAt, channelAt, sessionOf, siteOf, nodeOf, channelOf, onSession, onSite, onNode, onChannel}
 use Rattle.table.proofs.Parts.{session-is, site-is, node-is, channel-is}
 use Rattle.archive.specs.Influence.{SameWrites}
@@ -93,21 +91,18 @@ pub twin-putVec : (at : ℕ) (v : Vec) {s s′ r r′ : List ℕ} → Twin s s�
 unfolding putVec
 twin-putVec at v a = twin-putFirst width at v a
 
-twin-putFields : (at key source quality kind : ℕ) (level : ℤ) (stamp : ℕ) (v : Vec) {s s′ r r′ : List ℕ} → Twin s s′ r r′
-    → Twin s (putFields s′ at key source quality kind level stamp v) r (putFields r′ at key source quality kind level stamp v)
-unfolding putFields
-twin-putFields at key source quality kind level stamp v a =
-    twin-putVec (at + 16) v
-    (twin-put 8 (at + 8) stamp (twin-put 4 (at + 4) (bitsOf level) (twin-put 1 (at + 3) kind (twin-put 1 (at + 2) quality (twin-put 1 (at + 1) source (twin-put 1 at key a))))))
+twin-putAll : (at : ℕ) (fs : List Field) {s s′ r r′ : List ℕ} → Twin s s′ r r′ → Twin s (putAll at fs s′) r (putAll at fs r′)
+twin-putAll at [] a = a
+twin-putAll at (field p w x ∷ fs) a = twin-putAll at fs (twin-put w (at + p) x a)
 
-pub twin-putRecord : (at : ℕ) (x : Rec) {s s′ r r′ : List ℕ} → Twin s s′ r r′ → Twin s (putRecord s′ at x) r (putRecord r′ at x)
+pub twin-putRecord : (at kind : ℕ) (x : Rec) {s s′ r r′ : List ℕ} → Twin s s′ r r′ → Twin s (putRecord s′ at kind x) r (putRecord r′ at kind x)
 unfolding putRecord
-twin-putRecord at x a = twin-putFields at (x .id .key) (x .id .source) (x .quality) 1 (x .level) (x .id .stamp) (x .carried) a
+twin-putRecord at kind x a = twin-putVec (at + 16) (x .carried) (twin-putAll at (recordFields kind x) a)
 
 pub twin-putMessage : (at m : ℕ) (x : Msg) {s s′ r r′ : List ℕ} → Twin s s′ r r′ → Twin s (putMessage s′ at m x) r (putMessage r′ at m x)
 unfolding putMessage
-twin-putMessage at m (Update x) a = twin-putRecord at x a
-twin-putMessage at m (Heartbeat t) a = twin-putFields at 0 m 0 2 (pos 0) t zeros a
+twin-putMessage at m (Update x) a = twin-putRecord at 1 x a
+twin-putMessage at m (Heartbeat t) a = twin-putRecord at 2 (beat m t) a
 
 twin-putMarks : (i : ℕ) (ms : List Mark) {s s′ r r′ : List ℕ} → Twin s s′ r r′ → Twin s (putMarks s′ i ms) r (putMarks r′ i ms)
 unfolding putMarks
@@ -117,12 +112,8 @@ twin-putMarks i (m ∷ ms) a = twin-putMarks (suc i) ms (twin-put 1 (16 + i) (fl
 pub twin-putSession : (x : Session) {s s′ r r′ : List ℕ} → Twin s s′ r r′ → Twin s (putSession x s′) r (putSession x r′)
 unfolding putSession
 twin-putSession x a =
-    let g = x .page in
-    twin-putMarks 0 (g .marks)
-    (twin-putVec 96 (g .gathered)
-    (twin-putVec 64 (g .vec)
-    (twin-putVec 32 (x .vec)
-    (twin-put 1 3 (length (g .marks)) (twin-put 1 2 (flag (g .isOpen)) (twin-put 1 1 (x .site) (twin-put 1 0 (flag (x .isOpen)) a)))))))
+    twin-putMarks 0 (x .page .marks)
+    (twin-putVec 96 (x .page .gathered) (twin-putVec 64 (x .page .vec) (twin-putVec 32 (x .vec) (twin-putAll 0 (headFields x) a))))
 
 -- ---- f done to a part of both
 

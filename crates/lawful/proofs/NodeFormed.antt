@@ -69,15 +69,15 @@ module _ (c : Setting) (m p : ℕ) where
 
   module _ (r : Rec) (n : List ℕ) (l : length n ≡ 1856) (room : heldIn n < 32) where
     abbrev u : List ℕ
-    u = putRecord n (slotAt (heldIn n)) r
+    u = putRecord n (slotAt (heldIn n)) 1 r
 
     load-update : (w j : ℕ) → Apart j w 40 1 → Apart j w (slotAt (heldIn n)) 48 → load w (stored (Update r) n) j ≡ load w n j
     unfolding stored
-    load-update w j o o′ = load-put-other w 1 u 40 (heldIn n + 1) j o ∙ load-putRecord-other n (slotAt (heldIn n)) r w j o′
+    load-update w j o o′ = load-put-other w 1 u 40 (heldIn n + 1) j o ∙ load-putRecord-other n (slotAt (heldIn n)) 1 r w j o′
 
     held-update : heldIn (stored (Update r) n) ≡ heldIn n + 1
     unfolding stored heldIn span
-    held-update = load-put 1 u 40 (heldIn n + 1) (omega (arith, length-putRecord n (slotAt (heldIn n)) r)) (omega arith)
+    held-update = load-put 1 u 40 (heldIn n + 1) (omega (arith, length-putRecord n (slotAt (heldIn n)) 1 r)) (omega arith)
 
     clock-update : clockIn (stored (Update r) n) ≡ clockIn n
     unfolding clockIn

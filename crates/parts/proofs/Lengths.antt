@@ -22,7 +22,7 @@ length-clockSet t n = length-put 8 n 0 t
 
 pub length-stored : (x : Msg) (n : List ℕ) → length (stored x n) ≡ length n
 unfolding stored
-length-stored (Update r) n = length-put 1 (putRecord n (slotAt (heldIn n)) r) 40 (heldIn n + 1) ∙ length-putRecord n (slotAt (heldIn n)) r
+length-stored (Update r) n = length-put 1 (putRecord n (slotAt (heldIn n)) 1 r) 40 (heldIn n + 1) ∙ length-putRecord n (slotAt (heldIn n)) 1 r
 length-stored (Heartbeat t) n = refl
 
 pub length-published : (m : ℕ) (x : Msg) (n : List ℕ) → length (published m x n) ≡ length n

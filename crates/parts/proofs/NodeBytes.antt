@@ -60,8 +60,8 @@ module _ (n : List ℕ) (m v : ℕ) (l : length n ≡ 1856) (h : m < 4) where
 load-stored-other : (x : Msg) (n : List ℕ) (w j : ℕ) → j + w ≤ 40 → load w (stored x n) j ≡ load w n j
 unfolding stored
 load-stored-other (Update r) n w j h =
-    load-put-other w 1 (putRecord n (slotAt (heldIn n)) r) 40 (heldIn n + 1) j (λ k a b c d. omega arith)
-    ∙ load-putRecord-other n (slotAt (heldIn n)) r w j (λ k a b c d. omega arith)
+    load-put-other w 1 (putRecord n (slotAt (heldIn n)) 1 r) 40 (heldIn n + 1) j (λ k a b c d. omega arith)
+    ∙ load-putRecord-other n (slotAt (heldIn n)) 1 r w j (λ k a b c d. omega arith)
 load-stored-other (Heartbeat t) n w j h = refl
 
 clock-stored : (x : Msg) (n : List ℕ) → clockIn (stored x n) ≡ clockIn n
@@ -76,7 +76,7 @@ module _ (r : Rec) (n : List ℕ) (l : length n ≡ 1856) (small : FitsRec r) (r
   held-update : heldIn (stored (Update r) n) ≡ heldIn n + 1
   unfolding stored heldIn span
   held-update =
-      load-put 1 (putRecord n (slotAt (heldIn n)) r) 40 (heldIn n + 1) (omega (arith, length-putRecord n (slotAt (heldIn n)) r)) (omega arith)
+      load-put 1 (putRecord n (slotAt (heldIn n)) 1 r) 40 (heldIn n + 1) (omega (arith, length-putRecord n (slotAt (heldIn n)) 1 r)) (omega arith)
 
   -- the earlier records
   old-update : (k : ℕ) → k < heldIn n → recordAt (stored (Update r) n) (slotAt k) ≡ recordAt n (slotAt k)
@@ -84,15 +84,15 @@ module _ (r : Rec) (n : List ℕ) (l : length n ≡ 1856) (small : FitsRec r) (r
   old-update k h =
       record-ext (stored (Update r) n) n (slotAt k)
       (λ w j p q.
-      load-put-other w 1 (putRecord n (slotAt (heldIn n)) r) 40 (heldIn n + 1) j (λ i a b c d. omega arith)
-      ∙ load-putRecord-other n (slotAt (heldIn n)) r w j (λ i a b c d. omega arith))
+      load-put-other w 1 (putRecord n (slotAt (heldIn n)) 1 r) 40 (heldIn n + 1) j (λ i a b c d. omega arith)
+      ∙ load-putRecord-other n (slotAt (heldIn n)) 1 r w j (λ i a b c d. omega arith))
 
   new-update : recordAt (stored (Update r) n) (slotAt (heldIn n)) ≡ r
   unfolding stored
   new-update =
-      record-ext (stored (Update r) n) (putRecord n (slotAt (heldIn n)) r) (slotAt (heldIn n))
-      (λ w j p q. load-put-other w 1 (putRecord n (slotAt (heldIn n)) r) 40 (heldIn n + 1) j (λ i a b c d. omega arith))
-      ∙ record-putRecord n (slotAt (heldIn n)) r (omega arith) small
+      record-ext (stored (Update r) n) (putRecord n (slotAt (heldIn n)) 1 r) (slotAt (heldIn n))
+      (λ w j p q. load-put-other w 1 (putRecord n (slotAt (heldIn n)) 1 r) 40 (heldIn n + 1) j (λ i a b c d. omega arith))
+      ∙ record-putRecord n (slotAt (heldIn n)) 1 r (omega arith) small (omega arith)
 
 store-stored : (x : Msg) (n : List ℕ) → length n ≡ 1856 → FitsMsg x → Room x n → storeIn (stored x n) ≡ storeIn n ++ recordsIn x
 unfolding storeIn recordsIn

@@ -8,7 +8,8 @@ use mathlib.Core.List.{List, [], _∷_}
 use lib.Dec.{eqb}
 use lib.ListN.{length}
 use Rattle.codec.specs.Le.{load, put, span, Apart}
-use Rattle.codec.specs.Fields.{Field, field, putAll, Shows}
+use Rattle.codec.specs.Fields.{putAll}
+use Rattle.codec.specs.FieldTests.{Shows}
 use Rattle.codec.specs.Tabulate.{tabulate}
 use Rattle.codec.proofs.Le.{length-put, load-put, load-put-other}
 use Rattle.codec.proofs.Fields.{length-putAll, shows}
@@ -17,7 +18,7 @@ use Rattle.vector.specs.Entries.{loadVec, putVec}
 use Rattle.vector.proofs.Entries.{length-putVec, load-putVec-other, loadVec-putVec, loadVec-putVec-other}
 use Rattle.protocol.specs.State.{Mark, Session}
 use Rattle.record.proofs.RecordBytes.{loadVec-ext}
-use Rattle.parts.specs.Session.{markAt, sessionIn, flag, putMarks, putSession}
+use Rattle.parts.specs.Session.{markAt, sessionIn, flag, putMarks, headFields, putSession}
 use Rattle.parts.specs.Fits.{FitsMarks, FitsSession}
 
 flag-shown : (b : Bool) → eqb (flag b) 1 ≡ b
@@ -69,36 +70,29 @@ marks-put b i (m ∷ ms) l h small =
 
 -- ---- the bytes before the marks
 
-abbrev fields : Session → List Field
-fields x = field 0 1 (flag (x .isOpen)) ∷ field 1 1 (x .site) ∷ field 2 1 (flag (x .page .isOpen)) ∷ field 3 1 (length (x .page .marks)) ∷ []
-
 abbrev withVecs : Session → List ℕ → List ℕ
 withVecs x u = putVec (putVec (putVec u 32 (x .vec)) 64 (x .page .vec)) 96 (x .page .gathered)
 
 module _ (x : Session) (b : List ℕ) (l : length b ≡ 128) (small : FitsSession x) where
-  putSession-is : putSession x b ≡ putMarks (withVecs x (putAll 0 (fields x) b)) 0 (x .page .marks)
-  unfolding putSession
-  putSession-is = refl
-
-  stands : Shows 0 (putAll 0 (fields x) b) (fields x)
+  stands : Shows 0 (putAll 0 (headFields x) b) (headFields x)
   unfolding span
   stands =
-      shows 0 4 (fields x) b (omega arith) tt tt
+      shows 0 4 (headFields x) b (omega arith) tt tt
       (flag-lt (x .isOpen), (small .site, (flag-lt (x .page .isOpen), (omega (arith, small .count), tt))))
 
-  length-vecs : length (withVecs x (putAll 0 (fields x) b)) ≡ 128
+  length-vecs : length (withVecs x (putAll 0 (headFields x) b)) ≡ 128
   length-vecs = simp (length-putVec, length-put) l
 
   -- a load that reaches none of the marks
-  load-apart : (w j : ℕ) → Apart j w 8 16 → load w (putSession x b) j ≡ load w (withVecs x (putAll 0 (fields x) b)) j
+  load-apart : (w j : ℕ) → Apart j w 8 16 → load w (putSession x b) j ≡ load w (withVecs x (putAll 0 (headFields x) b)) j
+  unfolding putSession
   load-apart w j o =
-      rw putSession-is
-      (load-putMarks-other (withVecs x (putAll 0 (fields x) b)) 0 (x .page .marks) w j
-      (λ k p q r s. o k p q (omega arith) (omega (arith, small .count))) (λ k p q r s. o k p q (omega arith) (omega (arith, small .count))))
+      load-putMarks-other (withVecs x (putAll 0 (headFields x) b)) 0 (x .page .marks) w j
+      (λ k p q r s. o k p q (omega arith) (omega (arith, small .count))) (λ k p q r s. o k p q (omega arith) (omega (arith, small .count)))
 
-  load-head : (j : ℕ) → j < 4 → load 1 (putSession x b) j ≡ load 1 (putAll 0 (fields x) b) j
+  load-head : (j : ℕ) → j < 4 → load 1 (putSession x b) j ≡ load 1 (putAll 0 (headFields x) b) j
   load-head j h =
-      let u = putAll 0 (fields x) b in
+      let u = putAll 0 (headFields x) b in
       load-apart 1 j (λ k p q r s. omega arith)
       ∙ load-putVec-other 1 (putVec (putVec u 32 (x .vec)) 64 (x .page .vec)) 96 (x .page .gathered) j (λ k p q r s. omega arith)
       ∙ load-putVec-other 1 (putVec u 32 (x .vec)) 64 (x .page .vec) j (λ k p q r s. omega arith)
@@ -106,8 +100,8 @@ module _ (x : Session) (b : List ℕ) (l : length b ≡ 128) (small : FitsSessio
 
   -- ---- the vectors
 
-  vec-apart : (j : ℕ) → 24 ≤ j → loadVec (putSession x b) j ≡ loadVec (withVecs x (putAll 0 (fields x) b)) j
-  vec-apart j h = loadVec-ext (putSession x b) (withVecs x (putAll 0 (fields x) b)) j (λ i g. load-apart 8 (j + 8 * i) (λ k p q r s. omega arith))
+  vec-apart : (j : ℕ) → 24 ≤ j → loadVec (putSession x b) j ≡ loadVec (withVecs x (putAll 0 (headFields x) b)) j
+  vec-apart j h = loadVec-ext (putSession x b) (withVecs x (putAll 0 (headFields x) b)) j (λ i g. load-apart 8 (j + 8 * i) (λ k p q r s. omega arith))
 
   module _ (u : List ℕ) (g : length u ≡ 128) where
     vec-first : loadVec (withVecs x u) 32 ≡ x .vec
@@ -130,18 +124,19 @@ module _ (x : Session) (b : List ℕ) (l : length b ≡ 128) (small : FitsSessio
   -- ---- all
 
   marks-shown : tabulate (load 1 (putSession x b) 3) (markAt (putSession x b)) ≡ x .page .marks
+  unfolding putSession
   marks-shown =
       let ms = x .page .marks in
-      let v = withVecs x (putAll 0 (fields x) b) in
+      let v = withVecs x (putAll 0 (headFields x) b) in
       ap (λ n. tabulate n (markAt (putSession x b))) (load-head 3 (omega arith) ∙ stands .1 .1 .1 .0)
-      ∙ rw putSession-is (tab-ext (length ms) (markAt (putMarks v 0 ms)) (λ k. markAt (putMarks v 0 ms) (0 + k)) (λ k q. ap (markAt (putMarks v 0 ms)) (sym (zero-add k))))
+      ∙ tab-ext (length ms) (markAt (putMarks v 0 ms)) (λ k. markAt (putMarks v 0 ms) (0 + k)) (λ k q. ap (markAt (putMarks v 0 ms)) (sym (zero-add k)))
       ∙ marks-put v 0 ms length-vecs (omega (arith, small .count)) (small .marks)
 
   pub session-putSession : sessionIn (putSession x b) ≡ x
   unfolding sessionIn
   session-putSession =
-      let u = putAll 0 (fields x) b in
-      let long : length u ≡ 128 = length-putAll 0 (fields x) b ∙ l in
+      let u = putAll 0 (headFields x) b in
+      let long : length u ≡ 128 = length-putAll 0 (headFields x) b ∙ l in
       let isOpen = ap (λ k. eqb k 1) (load-head 0 (omega arith) ∙ stands .0) ∙ flag-shown (x .isOpen) in
       let site = load-head 1 (omega arith) ∙ stands .1 .0 in
       let paged = ap (λ k. eqb k 1) (load-head 2 (omega arith) ∙ stands .1 .1 .0) ∙ flag-shown (x .page .isOpen) in

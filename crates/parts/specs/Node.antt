@@ -31,7 +31,7 @@ clockSet t n = put 8 n 0 t
 
 -- an update is stored behind the others
 unfoldable pub stored : Msg → List ℕ → List ℕ
-stored (Update r) n = put 1 (putRecord n (slotAt (heldIn n)) r) 40 (heldIn n + 1)
+stored (Update r) n = put 1 (putRecord n (slotAt (heldIn n)) 1 r) 40 (heldIn n + 1)
 stored (Heartbeat t) n = n
 
 -- its own message: entry m becomes the stamp

@@ -6,6 +6,7 @@ use mathlib.Core.List.{List, [], _∷_}
 use lib.Dec.{eqb}
 use lib.ListN.{length}
 use Rattle.codec.specs.Le.{load, put}
+use Rattle.codec.specs.Fields.{Field, field, putAll}
 use Rattle.codec.specs.Tabulate.{tabulate}
 use Rattle.vector.specs.Entries.{loadVec, putVec}
 use Rattle.protocol.specs.State.{Mark, Session}
@@ -29,9 +30,10 @@ unfoldable pub putMarks : List ℕ → ℕ → List Mark → List ℕ
 putMarks b i [] = b
 putMarks b i (m ∷ ms) = putMarks (put 1 (put 1 b (8 + i) (m .key)) (16 + i) (flag (m .read))) (suc i) ms
 
+-- the bytes before the keys
+abbrev pub headFields : Session → List Field
+headFields x =
+    field 0 1 (flag (x .isOpen)) ∷ field 1 1 (x .site) ∷ field 2 1 (flag (x .page .isOpen)) ∷ field 3 1 (length (x .page .marks)) ∷ []
+
 unfoldable pub putSession : Session → List ℕ → List ℕ
-putSession x b =
-    let g = x .page in
-    putMarks
-    (putVec (putVec (putVec (put 1 (put 1 (put 1 (put 1 b 0 (flag (x .isOpen))) 1 (x .site)) 2 (flag (g .isOpen))) 3 (length (g .marks))) 32 (x .vec)) 64 (g .vec)) 96 (g .gathered))
-    0 (g .marks)
+putSession x b = putMarks (putVec (putVec (putVec (putAll 0 (headFields x) b) 32 (x .vec)) 64 (x .page .vec)) 96 (x .page .gathered)) 0 (x .page .marks)

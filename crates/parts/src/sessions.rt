@@ -6,7 +6,8 @@ ghost use Prim.Native.Nat.{ℕ, _+_, _≤_, _<_};
 ghost use lib.Dec.{eqb};
 ghost use lib.ListN.{length, getD};
 ghost use Rattle.codec.specs.Le.{load, put};
-ghost use Rattle.parts.specs.Session.{sessionIn, flag, putMarks, putSession};
+ghost use Rattle.codec.specs.Fields.{putAll};
+ghost use Rattle.parts.specs.Session.{sessionIn, flag, putMarks, headFields, putSession};
 ghost use Rattle.parts.specs.Meaning.{asSession};
 use crate::Session;
 
@@ -80,7 +81,7 @@ fn store_marks(b: &mut [u8], x: Session)
 // Bytes 0 to 3: open, site, page open, count.
 fn store_head(b: &mut [u8], x: Session)
     requires { ⌜ length (now b) ≡ 128 ⌝ }
-    ensures { λ _. ⌜ now (b .exit) ≡ put 1 (put 1 (put 1 (put 1 (now (b .entry)) 0 (flag (x .open))) 1 (x .site)) 2 (flag (x .paged))) 3 (x .count) ⌝ }
+    ensures { λ _. ⌜ now (b .exit) ≡ putAll 0 (headFields (asSession x)) (now (b .entry)) ⌝ }
 {
     codec::store_u8(b, 0, flag_of(x.open));
     codec::store_u8(b, 1, x.site);

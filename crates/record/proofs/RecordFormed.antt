@@ -1,6 +1,6 @@
 -- Records and messages in well-formed bytes. In order: equal bytes are formed alike, and what is put is formed where the value is lawful: a record, a
 -- heartbeat's zeros, a message.
-use Prim.Native.Nat.{ℕ, _+_, _*_, _≤_, _<_, _-_}
+use Prim.Native.Nat.{ℕ, _+_, _*_, _≤_, _<_}
 use native.Mathlib.Decide.{decLt}
 use native.Mathlib.Omega.{arith}
 use mathlib.Core.Path.{_≡_, sym, ap, subst}
@@ -17,19 +17,16 @@ use Rattle.codec.specs.Below.{allBelow}
 use Rattle.codec.proofs.Tests.{yes-every, yes-or-l, yes-or-r, cond-elim}
 use Rattle.codec.proofs.Level.{levelFrom-low, levelFrom-high}
 use Rattle.codec.proofs.Below.{all-below}
-use Rattle.vector.specs.Vec.{width, zeros}
+use Rattle.vector.specs.Vec.{width}
 use Rattle.vector.specs.Entries.{loadVec}
 use Rattle.vector.proofs.Entries.{loadVec-beyond}
 use Rattle.protocol.specs.Record.{Setting, Rec, Msg, Update, Heartbeat}
-use Rattle.protocol.specs.Times.{topOf}
-use Rattle.protocol.specs.Needs.{levelLawful}
 use Rattle.protocol.proofs.Times.{stamp-fits}
-use Rattle.record.specs.RecordBytes.{recordAt, messageAt, putRecord, putMessage}
-use Rattle.record.specs.Fits.{FitsRec}
+use Rattle.record.specs.RecordBytes.{recordAt, messageAt, putRecord, beat, putMessage}
 use Rattle.record.specs.Ranges.{recordLawful, messageLawful}
 use Rattle.record.specs.RecordFormed.{recordFormed, heartbeatFormed, messageFormed}
-use Rattle.record.proofs.RecordBytes.{Same, loadVec-ext, record-ext, message-ext, putKind, kind-put, record-putKind, record-putRecord, message-putMessage}
-use Rattle.record.proofs.Ranges.{vec-fits, zeros-lawful, level-fits, LawfulRec, record-lawful, record-fits, LawfulMsg, message-lawful, message-fits, ShortMsg, record-facts, message-facts}
+use Rattle.record.proofs.RecordBytes.{Same, loadVec-ext, record-ext, message-ext, kind-put, record-putRecord, beat-fits, message-putMessage}
+use Rattle.record.proofs.Ranges.{LawfulRec, record-lawful, record-fits, LawfulMsg, message-lawful, message-fits, ShortMsg, record-facts, message-facts}
 
 -- ---- equal bytes are formed alike
 
@@ -61,12 +58,12 @@ message-formed-ext c i p s t at e =
 -- ---- what is put is formed
 
 module _ (c : Setting) (few : c .sites ≤ 4) (p : ℕ) (b : List ℕ) (at : ℕ) (fit : at + 48 ≤ length b) where
-  pub record-formed-put : (r : Rec) → LawfulRec c p r → T (recordFormed c p (putRecord b at r) at)
-  unfolding recordFormed putRecord
+  pub record-formed-put : (r : Rec) → LawfulRec c p r → T (recordFormed c p (putRecord b at 1 r) at)
+  unfolding recordFormed
   record-formed-put r ok =
       let small = record-fits c p r few ok in
-      yes-and (eqb (load 1 (putRecord b at r) (at + 3)) 1) (recordLawful c p (recordAt (putRecord b at r) at)) (yes-eqb (kind-put b at 1 r fit small (omega arith)))
-      (subst (λ x. T (recordLawful c p x)) (sym (record-putRecord b at r fit small)) (record-lawful c p r ok))
+      yes-and (eqb (load 1 (putRecord b at 1 r) (at + 3)) 1) (recordLawful c p (recordAt (putRecord b at 1 r) at)) (yes-eqb (kind-put b at 1 r fit small (omega arith)))
+      (subst (λ x. T (recordLawful c p x)) (sym (record-putRecord b at 1 r fit small (omega arith))) (record-lawful c p r ok))
 
 level-zero : (x : ℕ) → levelFrom x ≡ pos 0 → x ≡ 0
 level-zero x e = go (decLt x 2147483648)
@@ -74,9 +71,6 @@ level-zero x e = go (decLt x 2147483648)
     go : Dec (x < 2147483648) → x ≡ 0
     go (yes l) = let q = levelFrom-low x l in cc
     go (no l) = let q = levelFrom-high x l in cc
-
-abbrev beat : (i t : ℕ) → Rec
-beat i t = record { id = record { key = 0; source = i; stamp = t }; quality = 0; level = pos 0; carried = zeros }
 
 -- the bytes that say the fields of a heartbeat are formed as one
 heartbeat-formed : (i t : ℕ) (b : List ℕ) (at : ℕ) → recordAt b at ≡ beat i t → T (heartbeatFormed i b at)
@@ -94,31 +88,21 @@ heartbeat-formed i t b at e =
       ),
     )
 
-beat-fits : (c : Setting) (i t : ℕ) → c .sites ≤ 4 → i < 4 → t < topOf c → FitsRec (beat i t)
-beat-fits c i t few h g = record {
-  key = omega arith;
-  source = omega arith;
-  stamp = stamp-fits c t g;
-  quality = omega arith;
-  level = level-fits (pos 0) (unfold levelLawful in tt);
-  carried = vec-fits c zeros few (zeros-lawful c);
-}
-
 module _ (c : Setting) (few : c .sites ≤ 4) (i p : ℕ) (h : i < 4) (b : List ℕ) (at : ℕ) (fit : at + 48 ≤ length b) where
   abbrev kindFormed : Msg → Bool
   kindFormed x = let u = putMessage b at i x in eqb (load 1 u (at + 3)) 1 || (eqb (load 1 u (at + 3)) 2 && heartbeatFormed i u at)
 
   kind-formed : (x : Msg) → LawfulMsg c i p x → T (kindFormed x)
-  unfolding putMessage putRecord
+  unfolding putMessage
   kind-formed (Update r) ok =
-      let u = putKind b at 1 r in
+      let u = putRecord b at 1 r in
       yes-or-l (eqb (load 1 u (at + 3)) 1) (eqb (load 1 u (at + 3)) 2 && heartbeatFormed i u at) (yes-eqb (kind-put b at 1 r fit (record-fits c p r few (ok .1)) (omega arith)))
   kind-formed (Heartbeat t) ok =
-      let u = putKind b at 2 (beat i t) in
-      let small = beat-fits c i t few h ok in
+      let u = putRecord b at 2 (beat i t) in
+      let small = beat-fits i t (omega arith) (stamp-fits c t ok) in
       yes-or-r (eqb (load 1 u (at + 3)) 1) (eqb (load 1 u (at + 3)) 2 && heartbeatFormed i u at)
       (yes-and (eqb (load 1 u (at + 3)) 2) (heartbeatFormed i u at) (yes-eqb (kind-put b at 2 (beat i t) fit small (omega arith)))
-      (heartbeat-formed i t u at (record-putKind b at 2 (beat i t) fit small (omega arith))))
+      (heartbeat-formed i t u at (record-putRecord b at 2 (beat i t) fit small (omega arith))))
 
   pub message-formed-put : (x : Msg) → LawfulMsg c i p x → T (messageFormed c i p (putMessage b at i x) at)
   unfolding messageFormed

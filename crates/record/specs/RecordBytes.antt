@@ -1,12 +1,13 @@
 -- R17: a record and a message are 48 bytes. What they say, and how they are written.
 use Prim.Native.Nat.{ℕ, _+_}
 use mathlib.Core.Bool.{cond}
-use mathlib.Core.List.{List}
+use mathlib.Core.List.{List, [], _∷_}
 use lib.Dec.{eqb}
-use lib.IntN.{ℤ, pos}
-use Rattle.codec.specs.Le.{load, put}
+use lib.IntN.{pos}
+use Rattle.codec.specs.Le.{load}
 use Rattle.codec.specs.Level.{levelFrom, bitsOf}
-use Rattle.vector.specs.Vec.{Vec, zeros}
+use Rattle.codec.specs.Fields.{Field, field, putAll}
+use Rattle.vector.specs.Vec.{zeros}
 use Rattle.vector.specs.Entries.{loadVec, putVec}
 use Rattle.protocol.specs.Record.{Rec, Msg, Update, Heartbeat}
 
@@ -23,15 +24,21 @@ recordAt b at = record {
 unfoldable pub messageAt : List ℕ → ℕ → Msg
 messageAt b at = cond (eqb (load 1 b (at + 3)) 1) (Update (recordAt b at)) (Heartbeat (load 8 b (at + 8)))
 
-unfoldable pub putFields : List ℕ → ℕ → (key source quality kind : ℕ) (level : ℤ) (stamp : ℕ) → Vec → List ℕ
-putFields b at key source quality kind level stamp v =
-    putVec (put 8 (put 4 (put 1 (put 1 (put 1 (put 1 b at key) (at + 1) source) (at + 2) quality) (at + 3) kind) (at + 4) (bitsOf level)) (at + 8) stamp) (at + 16) v
+-- all but the vector
+abbrev pub recordFields : (kind : ℕ) → Rec → List Field
+recordFields kind r =
+    field 0 1 (r .id .key) ∷ field 1 1 (r .id .source) ∷ field 2 1 (r .quality) ∷ field 3 1 kind
+    ∷ field 4 4 (bitsOf (r .level)) ∷ field 8 8 (r .id .stamp) ∷ []
 
 -- a stored record has kind 1
-unfoldable pub putRecord : List ℕ → ℕ → Rec → List ℕ
-putRecord b at r = putFields b at (r .id .key) (r .id .source) (r .quality) 1 (r .level) (r .id .stamp) (r .carried)
+unfoldable pub putRecord : List ℕ → (at kind : ℕ) → Rec → List ℕ
+putRecord b at kind r = putVec (putAll at (recordFields kind r) b) (at + 16) (r .carried)
 
--- a message of site m; a heartbeat has key, quality, level and vector zero
+-- how a heartbeat of site m is written: key, quality, level and vector zero
+abbrev pub beat : (m stamp : ℕ) → Rec
+beat m t = record { id = record { key = 0; source = m; stamp = t }; quality = 0; level = pos 0; carried = zeros }
+
+-- a message of site m
 unfoldable pub putMessage : List ℕ → ℕ → (m : ℕ) → Msg → List ℕ
-putMessage b at m (Update r) = putRecord b at r
-putMessage b at m (Heartbeat t) = putFields b at 0 m 0 2 (pos 0) t zeros
+putMessage b at m (Update r) = putRecord b at 1 r
+putMessage b at m (Heartbeat t) = putRecord b at 2 (beat m t)

@@ -7,8 +7,8 @@ ghost use Rattle.vector.specs.Entries.{entry};
 ghost use Rattle.vector.specs.Meaning.{asVec};
 ghost use Rattle.protocol.specs.Record.{stampIn};
 ghost use Rattle.protocol.specs.Needs.{frontUpdates};
-ghost use Rattle.record.specs.RecordBytes.{recordAt, messageAt, putFields, putMessage};
-ghost use Rattle.record.specs.Meaning.{asRecord, asMessage};
+ghost use Rattle.record.specs.RecordBytes.{recordAt, messageAt, putRecord, putMessage};
+ghost use Rattle.record.specs.Meaning.{recordWith, asRecord, asMessage};
 ghost use mathlib.Core.List.{[], _∷_};
 use crate::Letter;
 use crate::Message;
@@ -113,7 +113,7 @@ fn store_fields(
     carried: Vector,
 )
     requires { ⌜ at + 48 ≤ length (now b) ⌝ }
-    ensures { λ _. ⌜ now (b .exit) ≡ putFields (now (b .entry)) at key source quality kind level stamp (asVec carried) ⌝ }
+    ensures { λ _. ⌜ now (b .exit) ≡ putRecord (now (b .entry)) at kind (recordWith key source quality level stamp (asVec carried)) ⌝ }
 {
     codec::store_u8(b, at, key);
     codec::store_u8(b, at + 1, source);

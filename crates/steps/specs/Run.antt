@@ -1,21 +1,25 @@
 -- Many events at once, by any call for one of them: the pieces that the reader gives, and each answer in 16 bytes.
-use Prim.Native.Nat.{ℕ, zero, suc, _+_, _*_}
+use Prim.Native.Nat.{ℕ, zero, suc, _*_}
 use mathlib.Core.Bool.{cond}
-use mathlib.Core.List.{List}
+use mathlib.Core.List.{List, [], _∷_}
 use lib.Dec.{eqb}
 use lib.ListN.{length}
-use Rattle.codec.specs.Le.{put}
 use Rattle.codec.specs.Level.{bitsOf}
+use Rattle.codec.specs.Fields.{Field, field, putAll}
 use Rattle.protocol.specs.declared.Answer.{Answer}
+use Rattle.protocol.specs.declared.Values.{Values}
 use Rattle.protocol.specs.Event.{valuesOf}
 use Rattle.reader.specs.Pieces.{pieceOf}
 use Rattle.steps.specs.Step.{Called, refused, need, stepOn}
 
 -- an answer's 16 bytes: 0 number, 1 source, 2 quality, 3 zero, 4–7 level, 8–15 stamp
+abbrev pub answerFields : Values → List Field
+answerFields v =
+    field 0 1 (v .number) ∷ field 1 1 (v .source) ∷ field 2 1 (v .quality) ∷ field 3 1 0
+    ∷ field 4 4 (bitsOf (v .level)) ∷ field 8 8 (v .stamp) ∷ []
+
 unfoldable pub putAnswer : List ℕ → ℕ → Answer → List ℕ
-putAnswer b at a =
-    let v = valuesOf a in
-    put 8 (put 4 (put 1 (put 1 (put 1 (put 1 b at (v .number)) (at + 1) (v .source)) (at + 2) (v .quality)) (at + 3) 0) (at + 4) (bitsOf (v .level))) (at + 8) (v .stamp)
+putAnswer b at a = putAll at (answerFields (valuesOf a)) b
 
 pub record Ran : Type 0 where
   pub table : List ℕ

@@ -2,24 +2,23 @@
 use Prim.Native.Nat.{ℕ, zero, suc, _+_, _*_, _-_, _/_, _%_, max}
 use native.Mathlib.Omega.{arith}
 use mathlib.Core.List.{List, [], _∷_, _++_}
-use lib.IntN.{ℤ, pos}
-use lib.ListN.{length, set, take, drop}
+use lib.ListN.{set, take, drop}
 use lib.Seq.{getD-drop}
 use mir.Syntax.{w8}
 use mir.Val.{Fits}
 use mir.Facts.{fits-lit, fits-below}
 use Rattle.codec.specs.Le.{load, put, Bytes}
-use Rattle.codec.specs.Level.{bitsOf}
+use Rattle.codec.specs.Fields.{Field, field, putAll}
 use Rattle.codec.specs.Part.{partOf, onPart}
-use Rattle.vector.specs.Vec.{Vec, width, zeros}
+use Rattle.vector.specs.Vec.{Vec, width}
 use Rattle.vector.specs.Entries.{putFirst, putVec}
 use Rattle.protocol.specs.Record.{Rec, Msg, Update, Heartbeat, stampIn}
 use Rattle.protocol.specs.State.{Mark, Session}
 use Rattle.protocol.specs.Change.{Change, SetSession, SetClock, Publish, Receive}
-use Rattle.record.specs.RecordBytes.{putFields, putRecord, putMessage}
+use Rattle.record.specs.RecordBytes.{recordFields, putRecord, beat, putMessage}
 use Rattle.parts.specs.Node.{heldIn, slotAt, clockSet, stored, published, received}
 use Rattle.parts.specs.Channel.{frontIn, waitIn, ringAt, pushed, popped}
-use Rattle.parts.specs.Session.{flag, putMarks, putSession}
+use Rattle.parts.specs.Session.{flag, putMarks, headFields, putSession}
 use Rattle.table.specs.Parts.{sessionAt, siteAt, nodeAt, channelAt, placeOf, onSession, onSite, onNode, onChannel}
 use Rattle.table.specs.Put.{sentTo, publishedOn, putChange, putChanges}
 use Rattle.table.proofs.Parts.{part-every}
@@ -69,22 +68,18 @@ bytes-putVec : (t : List ℕ) (at : ℕ) (v : Vec) → Bytes t → Bytes (putVec
 unfolding putVec
 bytes-putVec t at v all = bytes-putFirst width t at v all
 
-bytes-putFields : (b : List ℕ) (at key source quality kind : ℕ) (level : ℤ) (stamp : ℕ) (v : Vec) → Bytes b → Bytes (putFields b at key source quality kind level stamp v)
-unfolding putFields
-bytes-putFields b at key source quality kind level stamp v all =
-    bytes-putVec _ (at + 16) v
-    (bytes-put 8 _ (at + 8) stamp
-    (bytes-put 4 _ (at + 4) (bitsOf level)
-    (bytes-put 1 _ (at + 3) kind (bytes-put 1 _ (at + 2) quality (bytes-put 1 _ (at + 1) source (bytes-put 1 b at key all))))))
+bytes-putAll : (at : ℕ) (fs : List Field) (b : List ℕ) → Bytes b → Bytes (putAll at fs b)
+bytes-putAll at [] b all = all
+bytes-putAll at (field p w x ∷ fs) b all = bytes-putAll at fs (put w b (at + p) x) (bytes-put w b (at + p) x all)
 
-bytes-putRecord : (b : List ℕ) (at : ℕ) (r : Rec) → Bytes b → Bytes (putRecord b at r)
+bytes-putRecord : (b : List ℕ) (at kind : ℕ) (r : Rec) → Bytes b → Bytes (putRecord b at kind r)
 unfolding putRecord
-bytes-putRecord b at r = bytes-putFields b at (r .id .key) (r .id .source) (r .quality) 1 (r .level) (r .id .stamp) (r .carried)
+bytes-putRecord b at kind r all = bytes-putVec (putAll at (recordFields kind r) b) (at + 16) (r .carried) (bytes-putAll at (recordFields kind r) b all)
 
 bytes-putMessage : (b : List ℕ) (at m : ℕ) (x : Msg) → Bytes b → Bytes (putMessage b at m x)
 unfolding putMessage
-bytes-putMessage b at m (Update r) = bytes-putRecord b at r
-bytes-putMessage b at m (Heartbeat t) = bytes-putFields b at 0 m 0 2 (pos 0) t zeros
+bytes-putMessage b at m (Update r) = bytes-putRecord b at 1 r
+bytes-putMessage b at m (Heartbeat t) = bytes-putRecord b at 2 (beat m t)
 
 bytes-putMarks : (b : List ℕ) (i : ℕ) (ms : List Mark) → Bytes b → Bytes (putMarks b i ms)
 unfolding putMarks
@@ -101,9 +96,7 @@ bytes-putSession x b all =
     bytes-putMarks _ 0 (x .page .marks)
     (bytes-putVec _ 96 (x .page .gathered)
     (bytes-putVec _ 64 (x .page .vec)
-    (bytes-putVec _ 32 (x .vec)
-    (bytes-put 1 _ 3 (length (x .page .marks))
-    (bytes-put 1 _ 2 (flag (x .page .isOpen)) (bytes-put 1 _ 1 (x .site) (bytes-put 1 b 0 (flag (x .isOpen)) all)))))))
+    (bytes-putVec _ 32 (x .vec) (bytes-putAll 0 (headFields x) b all))))
 
 bytes-clockSet : (t : ℕ) → Gives (clockSet t)
 unfolding clockSet
@@ -112,7 +105,7 @@ bytes-clockSet t n all = bytes-put 8 n 0 t all
 bytes-stored : (x : Msg) → Gives (stored x)
 unfolding stored
 bytes-stored (Update r) n all =
-    bytes-put 1 (putRecord n (slotAt (heldIn n)) r) 40 (heldIn n + 1) (bytes-putRecord n (slotAt (heldIn n)) r all)
+    bytes-put 1 (putRecord n (slotAt (heldIn n)) 1 r) 40 (heldIn n + 1) (bytes-putRecord n (slotAt (heldIn n)) 1 r all)
 bytes-stored (Heartbeat t) n all = all
 
 bytes-published : (m : ℕ) (x : Msg) → Gives (published m x)

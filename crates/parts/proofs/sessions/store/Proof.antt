@@ -1,7 +1,6 @@
 -- `parts::sessions::store` meets its contract: the head, the vectors and the marks are stored, the last first.
 use mathlib.Core.Path.{_∙_}
 use borrow.Author.Needs.{needs}
-use Rattle.codec.proofs.Tabulate.{tab-length}
 use Rattle.parts.specs.Session.{putSession}
 use Rattle.parts.proofs.sessions.store.Statement.{statement}
 use Rattle.parts.proofs.sessions.store.Tie as tie
@@ -32,7 +31,7 @@ returns c =
     let k3 = k4 .before .before .before .before in
     let k2 = k3 .before .before .before .before in
     k5 .store-marks .ensures
-    ∙ rw (k4 .store-vector3 .ensures, k3 .store-vector2 .ensures, k2 .store-vector .ensures, k2 .before .before .before .before .store-head .ensures, tab-length)
+    ∙ rw (k4 .store-vector3 .ensures, k3 .store-vector2 .ensures, k2 .store-vector .ensures, k2 .before .before .before .before .store-head .ensures)
 
 pub store-spec : {M : Type 1} → statement M
 store-spec =

@@ -1,6 +1,7 @@
 -- `parts::sessions::store_head` meets its contract: four stores, the last first.
 use mathlib.Core.Path.{_∙_}
 use borrow.Author.Needs.{needs}
+use Rattle.codec.proofs.Tabulate.{tab-length}
 use Rattle.parts.proofs.sessions.store_head.Statement.{statement}
 use Rattle.parts.proofs.sessions.store_head.Tie as tie
 
@@ -31,7 +32,7 @@ returns c =
     let k3 = k4 .before .before .before .before in
     let k2 = k3 .before .before .before .before .before in
     let k1 = k2 .before .before .before .before in
-    k4 .store-u84 .ensures ∙ rw (k3 .store-u83 .ensures, k3 .before .flag-of2 .ensures, k2 .store-u82 .ensures, k1 .store-u8 .ensures, k1 .before .flag-of .ensures)
+    k4 .store-u84 .ensures ∙ rw (k3 .store-u83 .ensures, k3 .before .flag-of2 .ensures, k2 .store-u82 .ensures, k1 .store-u8 .ensures, k1 .before .flag-of .ensures, tab-length)
 
 pub store-head-spec : {M : Type 1} → statement M
 store-head-spec =

@@ -1,9 +1,10 @@
 -- `record::bytes::store_fields` meets its contract: seven stores, the last first.
+use native.Mathlib.Nat.{add-zero}
 use mathlib.Core.Path.{_∙_}
 use borrow.Author.Needs.{needs}
 use mir.ValLaws.{toZ-ofZ}
 use mir.Syntax.{w32}
-use Rattle.record.specs.RecordBytes.{putFields}
+use Rattle.record.specs.RecordBytes.{putRecord}
 use Rattle.record.proofs.bytes.store_fields.Statement.{statement}
 use Rattle.record.proofs.bytes.store_fields.Tie as tie
 
@@ -50,7 +51,7 @@ same-length : tie.Need-same-length
 same-length c = search needs
 
 returns : tie.Need-returns
-unfolding putFields
+unfolding putRecord
 returns c =
     let k7 = c .before .before in
     let k6 = k7 .before .before .before .before in
@@ -61,7 +62,7 @@ returns c =
     let k1 = k2 .before .before .before .before in
     let s = k1 .before .before .before in
     k7 .store-vector .ensures
-    ∙ rw (k6 .store-u64 .ensures, k5 .store-level .ensures, toZ-ofZ w32 (s .args .level) (s .fits .level), k4 .store-u84 .ensures, k3 .store-u83 .ensures, k2 .store-u82 .ensures, k1 .store-u8 .ensures)
+    ∙ rw (add-zero, k6 .store-u64 .ensures, k5 .store-level .ensures, toZ-ofZ w32 (s .args .level) (s .fits .level), k4 .store-u84 .ensures, k3 .store-u83 .ensures, k2 .store-u82 .ensures, k1 .store-u8 .ensures)
 
 pub store-fields-spec : {M : Type 1} → statement M
 store-fields-spec =

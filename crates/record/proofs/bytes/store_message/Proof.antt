@@ -4,12 +4,10 @@ use borrow.Author.Needs.{needs}
 use mir.ValLaws.{toZ-ofZ}
 use mir.Syntax.{w32}
 use Rattle.vector.proofs.Entries.{entry-zeros}
-use Rattle.record.specs.RecordBytes.{putRecord, putMessage}
+use Rattle.record.specs.RecordBytes.{putMessage}
 use Rattle.record.proofs.Meaning.{message-told}
 use Rattle.record.proofs.bytes.store_message.Statement.{statement}
 use Rattle.record.proofs.bytes.store_message.Tie as tie
-
--- `record::bytes::store_message` meets its contract, variant by variant.
 
 enum-known-message : tie.Need-enum-known-message
 enum-known-message c = search needs
@@ -27,7 +25,7 @@ same-length : tie.Need-same-length
 same-length c = search needs
 
 returns : tie.Need-returns
-unfolding putMessage putRecord
+unfolding putMessage
 returns c =
     let k = c .before .before .before .before .before .before in
     let x = k .before .before .before .args .x in

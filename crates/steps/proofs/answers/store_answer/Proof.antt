@@ -1,4 +1,5 @@
 -- `steps::answers::store_answer` meets its contract: the six stores one after the other.
+use native.Mathlib.Nat.{add-zero}
 use mathlib.Core.Path.{_∙_}
 use mir.Syntax.{w32}
 use mir.Facts.{toZ-ofZ}
@@ -56,7 +57,7 @@ returns c =
     let b = q .before .before .before .before in
     let a = b .before .before .before .before in
     f .store-u64 .ensures
-    ∙ rw (e .store-level .ensures, toZ-ofZ {w = w32} (record { sfits = e .before .struct-told .given .1 .1 .1 .0 .1 }), d .store-u84 .ensures, q .store-u83 .ensures, b .store-u82 .ensures, a .store-u8 .ensures, a .before .before .values-of .ensures)
+    ∙ rw (add-zero, e .store-level .ensures, toZ-ofZ {w = w32} (record { sfits = e .before .struct-told .given .1 .1 .1 .0 .1 }), d .store-u84 .ensures, q .store-u83 .ensures, b .store-u82 .ensures, a .store-u8 .ensures, a .before .before .values-of .ensures)
 
 pub store-answer-spec : {M : Type 1} → statement M
 store-answer-spec =
