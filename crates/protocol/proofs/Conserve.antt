@@ -4,11 +4,11 @@ use native.Mathlib.Omega.{arith}
 use mathlib.Core.Path.{_≡_, refl, sym, subst, _∙_}
 use mathlib.Core.Logic.{_≢_}
 use mathlib.Core.Bool.{Bool, true, false, cond, not, _&&_}
-use mathlib.Core.List.{List, [], _∷_, _++_, tail}
+use mathlib.Core.List.{List, [], _∷_, _++_, tail, flatMap}
 use lib.Dec.{T, ltb, eqb, lt→ltb}
 use mir.Facts.{and-yes, eqb-yes}
 use Rattle.codec.proofs.Tests.{cond-elim}
-use Rattle.protocol.specs.Record.{Setting, partitionOf, Id, Rec, Msg, Update, Heartbeat}
+use Rattle.protocol.specs.Record.{Setting, partitionOf, Id, Rec, Msg, Update, Heartbeat, recordsIn}
 use Rattle.protocol.specs.State.{Net, State, setup}
 use Rattle.protocol.specs.Event.{Event, OPEN, CLOSE, CLOCK, GET, PUT, BEGIN, READ, END, BEAT, DELIVER, Refusal, Refused}
 use Rattle.protocol.specs.View.{place, view}
@@ -26,19 +26,19 @@ use Rattle.protocol.proofs.Network.{at-yes}
 -- ---- what waits in a channel
 
 waiting-update : (l : List Msg) (r : Rec) → waiting (l ++ (Update r ∷ [])) ≡ waiting l + 1
-unfolding waiting
+unfolding waiting recordsIn flatMap
 waiting-update [] r = refl
 waiting-update (Update q ∷ l) r = let k = waiting-update l r in omega arith
 waiting-update (Heartbeat t ∷ l) r = waiting-update l r
 
 waiting-beat : (l : List Msg) (t : ℕ) → waiting (l ++ (Heartbeat t ∷ [])) ≡ waiting l
-unfolding waiting
+unfolding waiting recordsIn flatMap
 waiting-beat [] t = refl
 waiting-beat (Update q ∷ l) t = let k = waiting-beat l t in omega arith
 waiting-beat (Heartbeat u ∷ l) t = waiting-beat l t
 
 waiting-front : (x : Msg) (l : List Msg) → waiting l + cond (frontUpdates (x ∷ l)) 1 0 ≡ waiting (x ∷ l)
-unfolding waiting frontUpdates
+unfolding waiting recordsIn flatMap frontUpdates
 waiting-front (Update r) l = omega arith
 waiting-front (Heartbeat t) l = omega arith
 
@@ -142,5 +142,5 @@ module _ (i m p : ℕ) (apart : i ≢ m) where
       omega arith
 
 pub conserved : Conserved
-unfolding setup waiting history start writtenAt
+unfolding setup waiting flatMap history start writtenAt
 conserved c es i m p d l = let a = run-balance i m p d (setup c) start es l in omega arith

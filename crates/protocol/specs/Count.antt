@@ -1,9 +1,10 @@
 -- What is conserved (R74): the updates of a channel, counted over what was written and over the events that took one off.
-use Prim.Native.Nat.{ℕ, suc, _+_}
+use Prim.Native.Nat.{ℕ, _+_}
 use mathlib.Core.Bool.{Bool, false, cond, _&&_}
-use mathlib.Core.List.{List, [], _∷_}
+use mathlib.Core.List.{List, [], _∷_, flatMap}
 use lib.Dec.{eqb}
-use Rattle.protocol.specs.Record.{Setting, partitionOf, Msg, Update, Heartbeat}
+use lib.ListN.{length}
+use Rattle.protocol.specs.Record.{Setting, partitionOf, Msg, recordsIn}
 use Rattle.protocol.specs.State.{Net, State}
 use Rattle.protocol.specs.Event.{Event}
 use Rattle.protocol.specs.View.{Place, ofSession, atSite, onChannel, place}
@@ -12,11 +13,9 @@ use Rattle.protocol.specs.Change.{at}
 use Rattle.protocol.specs.Step.{step, next}
 use Rattle.protocol.specs.Past.{Write, served}
 
--- the updates waiting in a channel
+-- how many updates wait in a channel
 unfoldable pub waiting : List Msg → ℕ
-waiting [] = 0
-waiting (Update r ∷ l) = suc (waiting l)
-waiting (Heartbeat t ∷ l) = waiting l
+waiting l = length (flatMap recordsIn l)
 
 -- how many of the writes were made at node (i, p)
 unfoldable pub writtenAt : Setting → (i p : ℕ) → List Write → ℕ
