@@ -3,7 +3,7 @@
 use Prim.Native.Nat.{ℕ, max, _≤_, _<_}
 use native.Mathlib.Omega.{arith}
 use mathlib.Core.Path.{_≡_, refl, sym, subst, _∙_}
-use mathlib.Core.Bool.{true, false, not, _&&_, _||_}
+use mathlib.Core.Bool.{true, false, _&&_}
 use mathlib.Core.List.{List, []}
 use lib.Dec.{T, ltb, lt→ltb}
 use lib.IntN.{ℤ}
@@ -15,27 +15,23 @@ use Rattle.protocol.specs.State.{Session}
 use Rattle.protocol.specs.Event.{PUT}
 use Rattle.protocol.specs.View.{View}
 use Rattle.protocol.specs.Needs.{storeRoom, sendRoom}
-use Rattle.protocol.specs.Serve.{_and_}
 use Rattle.protocol.proofs.Ladders.{refuse, ifNoPage, putAt, put-judged}
-use Rattle.record.specs.Ranges.{vecLawful}
 use Rattle.parts.specs.Node.{heldIn}
 use Rattle.parts.specs.Session.{sessionIn}
 use Rattle.table.specs.Parts.{sessionOf, siteOf, nodeOf}
 use Rattle.table.specs.Decode.{settingIn, decode}
-use Rattle.lawful.specs.LawfulValues.{pageLawful, sessionLawful}
+use Rattle.lawful.specs.LawfulValues.{sessionLawful}
 use Rattle.lawful.specs.WellFormed.{wellFormed}
+use Rattle.lawful.proofs.LawfulValues.{lawful-here}
 use Rattle.lawful.proofs.Facts.{formed}
 use Rattle.decision.specs.Answered.{answered}
 use Rattle.decision.proofs.Room.{roomy, store-room, send-room}
 use Rattle.decision.proofs.Ladders.{seenBy, session-says}
 
 pub site-there : (t : List ℕ) → T (wellFormed t) → (s : ℕ) → s < 16 → (x : Session) → x ≡ sessionIn (sessionOf t s) → x .isOpen ≡ true → x .site < load 1 t 0
-unfolding sessionLawful
 site-there t ok s h x e o =
     let c = settingIn t in
-    let lawful = subst (λ y. T (sessionLawful c y)) (sym e) (formed t ok .session s h .lawful) in
-    let here = and-yes (not (x .isOpen) || ltb (x .site) (c .sites)) (vecLawful c (x .vec) && pageLawful c (x .page)) lawful .0 in
-    ltb-yes (subst (λ b. T (not b || ltb (x .site) (c .sites))) o here)
+    lawful-here c x (subst (λ y. T (sessionLawful c y)) (sym e) (formed t ok .session s h .lawful)) o
 
 pub after-both : (a b c : ℕ) → (ltb a c && ltb b c) ≡ ltb (max a b) c
 after-both a b c =
