@@ -26,6 +26,7 @@ use Rattle.table.specs.Parts.{tableLength}
 use Rattle.table.specs.Decode.{decode}
 use Rattle.table.specs.Put.{fresh}
 use Rattle.lawful.specs.LawfulValues.{settingLawful}
+use Rattle.lawful.proofs.Facts.{setting-lawful}
 use Rattle.lawful.proofs.Steps.{Sound, fresh-sound, fresh-says}
 use Rattle.steps.specs.Step.{Called}
 use Rattle.archive.specs.Call.{stepCall}
@@ -47,8 +48,8 @@ unfoldable table : List ℕ
 table = fresh four
 
 lawful-four : T (settingLawful four)
-unfolding four settingLawful
-lawful-four = tt
+unfolding four
+lawful-four = setting-lawful four (omega arith) (omega arith) (omega arith) (omega arith)
 
 sound : Sound tableLength table
 unfolding table

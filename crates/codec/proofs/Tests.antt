@@ -9,7 +9,7 @@ use lib.Dec.{T, eqb, eqb-refl}
 use lib.ListN.{getD}
 use mir.Facts.{and-yes, yes-and}
 use borrow.Author.Tests.{not-true, not-false}
-use Rattle.codec.specs.Tests.{every, Hold, Passed}
+use Rattle.codec.specs.Tests.{every, Hold, Passed, lastOf, joined}
 
 pub cond-elim {ℓ κ} : {A : Type ℓ} (P : A → Type κ) (b : Bool) {x y : A} → (T b → P x) → (T (not b) → P y) → P (cond b x y)
 cond-elim P true f g = f tt
@@ -113,8 +113,23 @@ every-fails (true ∷ bs) (suc k) e = every-fails bs k e
 every-fails (false ∷ bs) (suc k) e = refl
 
 -- all but the last were passed, so the last decides
-pub every-last : (bs : List Bool) (b : Bool) → Passed bs → every (bs ++ (b ∷ [])) ≡ b
+pub every-last : (bs : List Bool) → Passed bs → every bs ≡ lastOf bs
 unfolding every
-every-last [] true h = refl
-every-last [] false h = refl
-every-last (b ∷ bs) c (e, h) = rw (e, every-last bs c h)
+every-last [] h = refl
+every-last (true ∷ []) h = refl
+every-last (false ∷ []) h = refl
+every-last (b ∷ c ∷ bs) (e, h) = rw e (every-last (c ∷ bs) h)
+
+-- two lists of tests as one
+pub every-both : (bs cs : List Bool) → (every bs && every cs) ≡ every (bs ++ cs)
+unfolding every
+every-both [] cs = refl
+every-both (true ∷ bs) cs = every-both bs cs
+every-both (false ∷ bs) cs = refl
+
+pub every-joined : (bs : List Bool) → every bs ≡ joined bs
+unfolding every
+every-joined [] = refl
+every-joined (true ∷ []) = refl
+every-joined (false ∷ []) = refl
+every-joined (b ∷ c ∷ bs) = ap (λ d. b && d) (every-joined (c ∷ bs))

@@ -13,7 +13,19 @@ abbrev pub Hold : List Bool → Type 0
 Hold [] = Unit {0}
 Hold (b ∷ bs) = T b × Hold bs
 
--- and as the equations that code learns from its branches
+-- and as the equations that code learns from its branches: those before the last, which then decides
 abbrev pub Passed : List Bool → Type 0
 Passed [] = Unit {0}
-Passed (b ∷ bs) = (b ≡ true) × Passed bs
+Passed (b ∷ []) = Unit {0}
+Passed (b ∷ c ∷ bs) = (b ≡ true) × Passed (c ∷ bs)
+
+abbrev pub lastOf : List Bool → Bool
+lastOf [] = true
+lastOf (b ∷ []) = b
+lastOf (b ∷ c ∷ bs) = lastOf (c ∷ bs)
+
+-- the tests as code joins them with `&`
+abbrev pub joined : List Bool → Bool
+joined [] = true
+joined (b ∷ []) = b
+joined (b ∷ c ∷ bs) = b && joined (c ∷ bs)

@@ -2,53 +2,26 @@
 -- records it holds and whose they are.
 use Prim.Native.Nat.{ℕ, _+_, _≤_, _<_}
 use native.Mathlib.Omega.{arith}
-use mathlib.Core.Path.{_≡_, subst}
-use mathlib.Core.Bool.{Bool, true, not, _&&_, _||_}
+use mathlib.Core.Path.{_≡_}
+use mathlib.Core.Bool.{true, _&&_}
 use mathlib.Core.List.{List}
-use lib.Dec.{T, leb, ltb, eqb}
-use lib.ListN.{length}
-use mir.Facts.{and-yes, ltb-yes, leb-yes}
+use lib.Dec.{T, ltb, eqb}
+use mir.Facts.{and-yes}
 use Rattle.codec.specs.Le.{load}
 use Rattle.codec.proofs.Tests.{cond-elim}
 use Rattle.codec.proofs.Tabulate.{tab-length}
 use Rattle.vector.proofs.Entries.{loadVec-beyond}
-use Rattle.protocol.specs.Record.{Setting}
-use Rattle.protocol.specs.State.{Session}
-use Rattle.protocol.specs.Needs.{keysLawful, distinct}
 use Rattle.record.specs.RecordBytes.{recordAt}
-use Rattle.record.specs.Ranges.{vecLawful, recordLawful}
+use Rattle.record.specs.Ranges.{recordLawful}
 use Rattle.record.specs.RecordFormed.{recordFormed}
 use Rattle.record.proofs.Ranges.{record-facts}
 use Rattle.parts.specs.Node.{slotAt, heldIn}
 use Rattle.parts.specs.Session.{markAt, sessionIn}
 use Rattle.table.specs.Parts.{sessionOf, siteOf, nodeOf}
 use Rattle.table.specs.Decode.{settingIn}
-use Rattle.lawful.specs.LawfulValues.{keysOf, pageLawful, sessionLawful}
 use Rattle.lawful.specs.WellFormed.{wellFormed}
+use Rattle.lawful.proofs.LawfulValues.{lawful-here, lawful-count}
 use Rattle.lawful.proofs.Facts.{formed}
-
--- ---- of a lawful session
-
-module _ (c : Setting) (x : Session) (y : T (sessionLawful c x)) where
-  abbrev here : Bool
-  here = not (x .isOpen) || ltb (x .site) (c .sites)
-
-  both : T here × T (vecLawful c (x .vec) && pageLawful c (x .page))
-  unfolding sessionLawful
-  both = and-yes here (vecLawful c (x .vec) && pageLawful c (x .page)) y
-
-  lawful-here : x .isOpen ≡ true → x .site < c .sites
-  lawful-here e = ltb-yes (subst (λ o. T (not o || ltb (x .site) (c .sites))) e (both .0))
-
-  lawful-count : length (x .page .marks) ≤ 8
-  unfolding pageLawful
-  lawful-count =
-      let g = x .page in
-      let ms = g .marks in
-      let used = not (g .isOpen) || (ltb 0 (length ms) && (keysLawful (keysOf ms) && distinct (keysOf ms))) in
-      leb-yes (and-yes (leb (length ms) 8) (used && (vecLawful c (g .vec) && vecLawful c (g .gathered))) (and-yes (vecLawful c (x .vec)) (pageLawful c g) (both .1) .1) .0)
-
--- ---- of the table
 
 module _ (t : List ℕ) (w : T (wellFormed t)) where
   pub parts-some : 0 < settingIn t .partitions

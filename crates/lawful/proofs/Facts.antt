@@ -3,9 +3,9 @@
 -- (`says-lawful`).
 use Prim.Native.Nat.{ℕ, zero, suc, _+_, _-_, _≤_, _<_}
 use native.Mathlib.Omega.{arith}
-use mathlib.Core.Path.{_≡_}
+use mathlib.Core.Path.{_≡_, sym, ap₂, _∙_}
 use mathlib.Core.Bool.{Bool, true, false, cond, not, _&&_}
-use mathlib.Core.List.{List, [], List·Memᴰ·not-nil}
+use mathlib.Core.List.{List, [], _∷_, List·Memᴰ·not-nil}
 use lib.Dec.{T, leb, ltb, eqb}
 use lib.ListN.{length}
 use mir.Syntax.{w8}
@@ -15,7 +15,7 @@ use Rattle.codec.specs.Le.{load, span, Bytes}
 use Rattle.codec.specs.Below.{allBelow}
 use Rattle.codec.specs.Tabulate.{tabulate}
 use Rattle.codec.proofs.Le.{load-lt}
-use Rattle.codec.proofs.Tests.{cond-elim}
+use Rattle.codec.proofs.Tests.{cond-elim, every-yes, yes-every, every-both, every-joined}
 use Rattle.codec.proofs.Below.{all-below-at, all-below}
 use Rattle.codec.proofs.Tabulate.{tab-length, tab-each}
 use Rattle.vector.proofs.Entries.{loadVec-beyond}
@@ -52,25 +52,19 @@ module _ (c : Setting) (b : List ℕ) where
   session-facts-of : T (sessionFormed c b) → SessionFacts c b
   unfolding sessionFormed flagsAt
   session-facts-of t =
-      let marks = allBelow 8 (λ i. ltb (load 1 b (16 + i)) 2) in
-      let all = and-yes (ltb (load 1 b 0) 2 && (ltb (load 1 b 2) 2 && marks)) (sessionLawful c (sessionIn b)) t in
-      let flags = and-yes (ltb (load 1 b 0) 2) (ltb (load 1 b 2) 2 && marks) (all .0) in
-      let more = and-yes (ltb (load 1 b 2) 2) marks (flags .1) in
+      let (isOpen, (paged, (marks, (lawful, _)))) = every-yes _ t in
       record {
-        isOpen = ltb-yes (flags .0);
-        paged = ltb-yes (more .0);
-        marks = λ i h. ltb-yes (all-below-at 8 (λ i. ltb (load 1 b (16 + i)) 2) (more .1) i h);
-        lawful = all .1;
+        isOpen = ltb-yes isOpen;
+        paged = ltb-yes paged;
+        marks = λ i h. ltb-yes (all-below-at 8 (λ i. ltb (load 1 b (16 + i)) 2) marks i h);
+        lawful = lawful;
       }
 
   session-formed : SessionFacts c b → T (sessionFormed c b)
   unfolding sessionFormed flagsAt
   session-formed F =
-      let marks = allBelow 8 (λ i. ltb (load 1 b (16 + i)) 2) in
-      yes-and (ltb (load 1 b 0) 2 && (ltb (load 1 b 2) 2 && marks)) (sessionLawful c (sessionIn b))
-      (yes-and (ltb (load 1 b 0) 2) (ltb (load 1 b 2) 2 && marks) (yes-ltb (F .isOpen))
-      (yes-and (ltb (load 1 b 2) 2) marks (yes-ltb (F .paged)) (all-below 8 (λ i. ltb (load 1 b (16 + i)) 2) (λ i h. yes-ltb (F .marks i h)))))
-      (F .lawful)
+      let marks = all-below 8 (λ i. ltb (load 1 b (16 + i)) 2) (λ i h. yes-ltb (F .marks i h)) in
+      yes-every _ (yes-ltb (F .isOpen), (yes-ltb (F .paged), (marks, (F .lawful, tt))))
 
 -- ---- a node
 
@@ -81,30 +75,16 @@ pub record NodeFacts (c : Setting) (m p : ℕ) (n : List ℕ) : Type 0 where
   pub slots : (k : ℕ) → k < heldIn n → T (recordFormed c p n (slotAt k))
 
 module _ (c : Setting) (m p : ℕ) (n : List ℕ) where
-  abbrev most-held : ℕ
-  most-held = cond (ltb m (c .sites) && ltb p (c .partitions)) 32 0
-
   node-facts : T (nodeFormed c m p n) → NodeFacts c m p n
   unfolding nodeFormed
   node-facts t =
-      let slots = allBelow (heldIn n) (λ k. recordFormed c p n (slotAt k)) in
-      let all = and-yes (timeLawful (clockIn n) && vecLawful c (heardIn n)) (leb (heldIn n) most-held && slots) t in
-      let times = and-yes (timeLawful (clockIn n)) (vecLawful c (heardIn n)) (all .0) in
-      let held = and-yes (leb (heldIn n) most-held) slots (all .1) in
-      record {
-        clock = times .0;
-        heard = times .1;
-        held = leb-yes (held .0);
-        slots = all-below-at (heldIn n) (λ k. recordFormed c p n (slotAt k)) (held .1);
-      }
+      let (clock, (heard, (held, (slots, _)))) = every-yes _ t in
+      record { clock = clock; heard = heard; held = leb-yes held; slots = all-below-at (heldIn n) (λ k. recordFormed c p n (slotAt k)) slots }
 
   node-formed : NodeFacts c m p n → T (nodeFormed c m p n)
   unfolding nodeFormed
   node-formed F =
-      let slots = allBelow (heldIn n) (λ k. recordFormed c p n (slotAt k)) in
-      yes-and (timeLawful (clockIn n) && vecLawful c (heardIn n)) (leb (heldIn n) most-held && slots)
-      (yes-and (timeLawful (clockIn n)) (vecLawful c (heardIn n)) (F .clock) (F .heard))
-      (yes-and (leb (heldIn n) most-held) slots (yes-leb (F .held)) (all-below (heldIn n) (λ k. recordFormed c p n (slotAt k)) (F .slots)))
+      yes-every _ (F .clock, (F .heard, (yes-leb (F .held), (all-below (heldIn n) (λ k. recordFormed c p n (slotAt k)) (F .slots), tt))))
 
 -- ---- a channel
 
@@ -164,37 +144,34 @@ pub record Formed (t : List ℕ) : Type 0 where
 pub setting-facts : (c : Setting) → T (settingLawful c) → (0 < c .sites) × (c .sites ≤ 4) × (0 < c .partitions) × (c .partitions ≤ 4)
 unfolding settingLawful
 setting-facts c t =
-    let both = and-yes (ltb 0 (c .sites) && leb (c .sites) 4) (ltb 0 (c .partitions) && leb (c .partitions) 4) t in
-    let sites = and-yes (ltb 0 (c .sites)) (leb (c .sites) 4) (both .0) in
-    let partitions = and-yes (ltb 0 (c .partitions)) (leb (c .partitions) 4) (both .1) in (ltb-yes (sites .0), leb-yes (sites .1), ltb-yes (partitions .0), leb-yes (partitions .1))
+    let (site, (sites, (partition, (partitions, _)))) = every-yes _ t in (ltb-yes site, leb-yes sites, ltb-yes partition, leb-yes partitions)
 
-setting-lawful : (c : Setting) → 0 < c .sites → c .sites ≤ 4 → 0 < c .partitions → c .partitions ≤ 4 → T (settingLawful c)
+pub setting-lawful : (c : Setting) → 0 < c .sites → c .sites ≤ 4 → 0 < c .partitions → c .partitions ≤ 4 → T (settingLawful c)
 unfolding settingLawful
-setting-lawful c a b d e =
-    yes-and (ltb 0 (c .sites) && leb (c .sites) 4) (ltb 0 (c .partitions) && leb (c .partitions) 4)
-    (yes-and (ltb 0 (c .sites)) (leb (c .sites) 4) (yes-ltb a) (yes-leb b)) (yes-and (ltb 0 (c .partitions)) (leb (c .partitions) 4) (yes-ltb d) (yes-leb e))
+setting-lawful c a b d e = yes-every _ (yes-ltb a, (yes-leb b, (yes-ltb d, (yes-leb e, tt))))
+
+-- the numbers tested one after the other
+pub setting-tests : (m n : ℕ) → ((ltb 0 m && leb m 4) && (ltb 0 n && leb n 4)) ≡ settingLawful (record { sites = m; partitions = n })
+unfolding settingLawful
+setting-tests m n =
+    let first = ltb 0 m ∷ leb m 4 ∷ [] in
+    let second = ltb 0 n ∷ leb n 4 ∷ [] in
+    ap₂ _&&_ (sym (every-joined first)) (sym (every-joined second)) ∙ every-both first second
 
 module _ (t : List ℕ) where
-  abbrev sessions : Bool
-  sessions = allBelow 16 (λ s. sessionFormed (settingIn t) (sessionOf t s))
-
-  abbrev all-sites : Bool
-  all-sites = allBelow 4 (λ m. siteFormed (settingIn t) m (siteOf t m))
-
   pub formed : T (wellFormed t) → Formed t
   unfolding wellFormed
   formed w =
       let c = settingIn t in
-      let all = and-yes (settingLawful c) (sessions && all-sites) w in
-      let fixed = setting-facts c (all .0) in
-      let partitions = and-yes sessions all-sites (all .1) in
-      let site : (m : ℕ) → m < 4 → T (siteFormed c m (siteOf t m)) = all-below-at 4 (λ m. siteFormed c m (siteOf t m)) (partitions .1) in
+      let (setting, (sessions, (sites, _))) = every-yes _ w in
+      let fixed = setting-facts c setting in
+      let site : (m : ℕ) → m < 4 → T (siteFormed c m (siteOf t m)) = all-below-at 4 (λ m. siteFormed c m (siteOf t m)) sites in
       record {
         site = fixed .0;
         sites = fixed .1;
         partition = fixed .2;
         partitions = fixed .3;
-        session = λ s h. session-facts-of c (sessionOf t s) (all-below-at 16 (λ s. sessionFormed c (sessionOf t s)) (partitions .0) s h);
+        session = λ s h. session-facts-of c (sessionOf t s) (all-below-at 16 (λ s. sessionFormed c (sessionOf t s)) sessions s h);
         node = λ m p h g. site-facts c m (siteOf t m) (site m h) p g .0;
         channel = λ m p d h g. site-facts c m (siteOf t m) (site m h) p g .1 d;
       }
@@ -203,9 +180,9 @@ module _ (t : List ℕ) where
   unfolding wellFormed
   well-formed F =
       let c = settingIn t in
-      yes-and (settingLawful c) (sessions && all-sites) (setting-lawful c (F .site) (F .sites) (F .partition) (F .partitions))
-      (yes-and sessions all-sites (all-below 16 (λ s. sessionFormed c (sessionOf t s)) (λ s h. session-formed c (sessionOf t s) (F .session s h)))
-      (all-below 4 (λ m. siteFormed c m (siteOf t m)) (λ m h. site-formed c m (siteOf t m) (λ p. F .node m p h) (λ p d. F .channel m p d h))))
+      let sessions = all-below 16 (λ s. sessionFormed c (sessionOf t s)) (λ s h. session-formed c (sessionOf t s) (F .session s h)) in
+      let sites = all-below 4 (λ m. siteFormed c m (siteOf t m)) (λ m h. site-formed c m (siteOf t m) (λ p. F .node m p h) (λ p d. F .channel m p d h)) in
+      yes-every _ (setting-lawful c (F .site) (F .sites) (F .partition) (F .partitions), (sessions, (sites, tt)))
 
 -- ---- what a table says is lawful
 

@@ -11,6 +11,7 @@ use lib.Dec.{leb, ltb, eqb}
 use Rattle.codec.specs.Le.{load}
 use Rattle.codec.specs.Below.{allBelow}
 use Rattle.codec.specs.Tabulate.{tabulate}
+use Rattle.codec.specs.Tests.{every}
 use Rattle.codec.proofs.Tests.{and-swap}
 use Rattle.codec.proofs.Tabulate.{tab-length, tab-more, tab-none}
 use Rattle.vector.specs.Entries.{loadVec}
@@ -97,7 +98,10 @@ keysOf-tabulate (suc n) f = ap (λ (l : List ℕ). f 0 .key ∷ l) (keysOf-tabul
 abbrev pub pageKeys : List ℕ → List ℕ
 pageKeys b = tabulate (load 1 b 3) (λ i. load 1 b (8 + i))
 
-pub pageLawful-in : (c : Setting) (b : List ℕ) → pageLawful c (sessionIn b .page)
-    ≡ (leb (load 1 b 3) 8 && ((not (eqb (load 1 b 2) 1) || (ltb 0 (load 1 b 3) && (keysLawful (pageKeys b) && distinct (pageKeys b)))) && (vecLawful c (loadVec b 64) && vecLawful c (loadVec b 96))))
+pub pageLawful-in : (c : Setting) (b : List ℕ) → pageLawful c (sessionIn b .page) ≡ every
+    (leb (load 1 b 3) 8
+    ∷ (not (eqb (load 1 b 2) 1) || every (ltb 0 (load 1 b 3) ∷ keysLawful (pageKeys b) ∷ distinct (pageKeys b) ∷ []))
+    ∷ vecLawful c (loadVec b 64)
+    ∷ vecLawful c (loadVec b 96) ∷ [])
 unfolding pageLawful sessionIn markAt
 pageLawful-in c b = rw (keysOf-tabulate (load 1 b 3) (markAt b), tab-length (load 1 b 3) (markAt b))

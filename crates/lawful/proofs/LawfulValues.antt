@@ -3,19 +3,20 @@
 -- entry beyond the sites, at any number. Vectors that are read from bytes are so.
 use Prim.Native.Nat.{ℕ, _≤_, _<_}
 use native.Mathlib.Omega.{arith}
-use mathlib.Core.Bool.{Bool, not, _&&_, _||_}
+use mathlib.Core.Path.{_≡_, sym, subst}
+use mathlib.Core.Bool.{Bool, true}
 use mathlib.Core.List.{List, [], _∷_}
-use lib.Dec.{T, leb, ltb}
+use lib.Dec.{T, ltb}
 use lib.ListN.{length}
-use mir.Facts.{and-yes, yes-and, ltb-yes, leb-yes, yes-ltb, yes-leb}
-use Rattle.codec.proofs.Tests.{implies, yes-implies}
+use mir.Facts.{and-yes, ltb-yes, leb-yes, yes-ltb, yes-leb}
+use Rattle.codec.specs.Tests.{every}
+use Rattle.codec.proofs.Tests.{implies, yes-implies, every-yes, yes-every}
 use Rattle.vector.proofs.Entries.{Short}
 use Rattle.protocol.specs.Record.{Setting, Rec, Msg}
 use Rattle.protocol.specs.Times.{timeLimit}
 use Rattle.protocol.specs.State.{Mark, Page, Session, State}
 use Rattle.protocol.specs.Needs.{keysLawful, distinct}
 use Rattle.protocol.specs.Past.{_∈_}
-use Rattle.record.specs.Ranges.{vecLawful}
 use Rattle.record.proofs.Ranges.{LawfulMsg, LawfulRec, LawfulVec, vec-facts, vec-fits, vec-lawful}
 use Rattle.parts.specs.Fits.{FitsMarks, FitsSession}
 use Rattle.lawful.specs.LawfulValues.{keysOf, pageLawful, sessionLawful}
@@ -38,36 +39,26 @@ marks-fit (m ∷ ms) t =
 
 module _ (c : Setting) (g : Page) where
   abbrev some-keys : Bool
-  some-keys = ltb 0 (length (g .marks)) && (keysLawful (keysOf (g .marks)) && distinct (keysOf (g .marks)))
+  some-keys = every (ltb 0 (length (g .marks)) ∷ keysLawful (keysOf (g .marks)) ∷ distinct (keysOf (g .marks)) ∷ [])
 
   pub page-facts : T (pageLawful c g) → FitsMarks (g .marks) → Short (g .vec) → Short (g .gathered) → LawfulPage c g
   unfolding pageLawful
   page-facts t keys short short′ =
-      let few = leb (length (g .marks)) 8 in
-      let vecs = vecLawful c (g .vec) && vecLawful c (g .gathered) in
-      let a = and-yes few ((not (g .isOpen) || some-keys) && vecs) t in
-      let b = and-yes (not (g .isOpen) || some-keys) vecs (a .1) in
-      let d = and-yes (vecLawful c (g .vec)) (vecLawful c (g .gathered)) (b .1) in
+      let (few, (used, (vec, (gathered, _)))) = every-yes _ t in
       record {
-        count = leb-yes (a .0);
+        count = leb-yes few;
         keys = keys;
         used = λ h.
-            let e = and-yes (ltb 0 (length (g .marks))) (keysLawful (keysOf (g .marks)) && distinct (keysOf (g .marks))) (implies (g .isOpen) some-keys (b .0) h) in
-            let f = and-yes (keysLawful (keysOf (g .marks))) (distinct (keysOf (g .marks))) (e .1) in (ltb-yes (e .0), f .0, f .1);
-        vec = vec-facts c (g .vec) (d .0) short;
-        gathered = vec-facts c (g .gathered) (d .1) short′;
+            let (some, (lawful, (apart, _))) = every-yes _ (implies (g .isOpen) some-keys used h) in (ltb-yes some, lawful, apart);
+        vec = vec-facts c (g .vec) vec short;
+        gathered = vec-facts c (g .gathered) gathered short′;
       }
 
   pub page-lawful : LawfulPage c g → T (pageLawful c g)
   unfolding pageLawful
   page-lawful G =
-      let vecs = vecLawful c (g .vec) && vecLawful c (g .gathered) in
-      let keys = keysLawful (keysOf (g .marks)) in
-      let apart = distinct (keysOf (g .marks)) in
-      yes-and (leb (length (g .marks)) 8) ((not (g .isOpen) || some-keys) && vecs) (yes-leb (G .count))
-      (yes-and (not (g .isOpen) || some-keys) vecs
-      (yes-implies (g .isOpen) some-keys (λ h. let u = G .used h in yes-and (ltb 0 (length (g .marks))) (keys && apart) (yes-ltb (u .0)) (yes-and keys apart (u .1) (u .2))))
-      (yes-and (vecLawful c (g .vec)) (vecLawful c (g .gathered)) (vec-lawful c (g .vec) (G .vec)) (vec-lawful c (g .gathered) (G .gathered))))
+      let used = yes-implies (g .isOpen) some-keys (λ h. let u = G .used h in yes-every _ (yes-ltb (u .0), (u .1, (u .2, tt)))) in
+      yes-every _ (yes-leb (G .count), (used, (vec-lawful c (g .vec) (G .vec), (vec-lawful c (g .gathered) (G .gathered), tt))))
 
 -- ---- sessions
 
@@ -81,22 +72,31 @@ module _ (c : Setting) (x : Session) where
   pub session-facts : T (sessionLawful c x) → x .site < 256 → Short (x .vec) → (T (pageLawful c (x .page)) → LawfulPage c (x .page)) → LawfulSession c x
   unfolding sessionLawful
   session-facts t site short page =
-      let here = not (x .isOpen) || ltb (x .site) (c .sites) in
-      let a = and-yes here (vecLawful c (x .vec) && pageLawful c (x .page)) t in
-      let b = and-yes (vecLawful c (x .vec)) (pageLawful c (x .page)) (a .1) in
+      let (here, (vec, (lawful, _))) = every-yes _ t in
       record {
         site = site;
-        here = λ h. ltb-yes (implies (x .isOpen) (ltb (x .site) (c .sites)) (a .0) h);
-        vec = vec-facts c (x .vec) (b .0) short;
-        page = page (b .1);
+        here = λ h. ltb-yes (implies (x .isOpen) (ltb (x .site) (c .sites)) here h);
+        vec = vec-facts c (x .vec) vec short;
+        page = page lawful;
       }
 
   pub session-lawful : LawfulSession c x → T (sessionLawful c x)
   unfolding sessionLawful
   session-lawful X =
-      yes-and (not (x .isOpen) || ltb (x .site) (c .sites)) (vecLawful c (x .vec) && pageLawful c (x .page))
-      (yes-implies (x .isOpen) (ltb (x .site) (c .sites)) (λ h. yes-ltb (X .here h)))
-      (yes-and (vecLawful c (x .vec)) (pageLawful c (x .page)) (vec-lawful c (x .vec) (X .vec)) (page-lawful c (x .page) (X .page)))
+      let here = yes-implies (x .isOpen) (ltb (x .site) (c .sites)) (λ h. yes-ltb (X .here h)) in
+      yes-every _ (here, (vec-lawful c (x .vec) (X .vec), (page-lawful c (x .page) (X .page), tt)))
+
+  -- two of the tests by themselves
+  pub lawful-here : T (sessionLawful c x) → x .isOpen ≡ true → x .site < c .sites
+  unfolding sessionLawful
+  lawful-here t o = let (here, _) = every-yes _ t in ltb-yes (implies (x .isOpen) (ltb (x .site) (c .sites)) here (subst T (sym o) tt))
+
+  pub lawful-count : T (sessionLawful c x) → length (x .page .marks) ≤ 8
+  unfolding sessionLawful pageLawful
+  lawful-count t =
+      let (_, (_, (page, _))) = every-yes _ t in
+      let (few, _) = every-yes _ page in
+      leb-yes few
 
   pub session-fits : c .sites ≤ 4 → LawfulSession c x → FitsSession x
   session-fits few X = record {

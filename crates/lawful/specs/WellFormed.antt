@@ -2,10 +2,11 @@
 -- Slots, ring places and page keys that are not in use, and spare bytes, may hold anything; flags, marks, clocks and vectors are tested at every place.
 use Prim.Native.Nat.{ℕ, _+_, _-_}
 use mathlib.Core.Bool.{Bool, cond, _&&_}
-use mathlib.Core.List.{List}
+use mathlib.Core.List.{List, [], _∷_}
 use lib.Dec.{leb, ltb}
 use Rattle.codec.specs.Le.{load}
 use Rattle.codec.specs.Below.{allBelow}
+use Rattle.codec.specs.Tests.{every}
 use Rattle.protocol.specs.Record.{Setting}
 use Rattle.record.specs.Ranges.{timeLawful, vecLawful}
 use Rattle.record.specs.RecordFormed.{messageFormed, recordFormed}
@@ -21,13 +22,15 @@ unfoldable pub flagsAt : List ℕ → (at n : ℕ) → Bool
 flagsAt b at n = allBelow n (λ i. ltb (load 1 b (at + i)) 2)
 
 unfoldable pub sessionFormed : Setting → List ℕ → Bool
-sessionFormed c b = (ltb (load 1 b 0) 2 && (ltb (load 1 b 2) 2 && flagsAt b 16 8)) && sessionLawful c (sessionIn b)
+sessionFormed c b = every (ltb (load 1 b 0) 2 ∷ ltb (load 1 b 2) 2 ∷ flagsAt b 16 8 ∷ sessionLawful c (sessionIn b) ∷ [])
 
 -- R24: the node of an absent site or partition holds no record
 unfoldable pub nodeFormed : Setting → (m p : ℕ) → List ℕ → Bool
-nodeFormed c m p n =
-    (timeLawful (clockIn n) && vecLawful c (heardIn n))
-    && (leb (heldIn n) (cond (ltb m (c .sites) && ltb p (c .partitions)) 32 0) && allBelow (heldIn n) (λ k. recordFormed c p n (slotAt k)))
+nodeFormed c m p n = every
+    (timeLawful (clockIn n)
+    ∷ vecLawful c (heardIn n)
+    ∷ leb (heldIn n) (cond (ltb m (c .sites) && ltb p (c .partitions)) 32 0)
+    ∷ allBelow (heldIn n) (λ k. recordFormed c p n (slotAt k)) ∷ [])
 
 -- R25: the channel to the place d; of the other sites those below sites - 1 exist
 unfoldable pub channelFormed : Setting → (i p d : ℕ) → List ℕ → Bool
@@ -42,4 +45,4 @@ siteFormed c m site = allBelow 4 (λ p. nodeFormed c m p (nodeOf site p) && allB
 unfoldable pub wellFormed : List ℕ → Bool
 wellFormed t =
     let c = settingIn t in
-    settingLawful c && (allBelow 16 (λ s. sessionFormed c (sessionOf t s)) && allBelow 4 (λ m. siteFormed c m (siteOf t m)))
+    every (settingLawful c ∷ allBelow 16 (λ s. sessionFormed c (sessionOf t s)) ∷ allBelow 4 (λ m. siteFormed c m (siteOf t m)) ∷ [])

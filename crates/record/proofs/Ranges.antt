@@ -19,7 +19,7 @@ use Rattle.protocol.specs.Times.{topOf}
 use Rattle.protocol.specs.Needs.{levelLawful}
 use Rattle.protocol.proofs.Times.{stamp-fits, time-below-top}
 use Rattle.record.specs.Fits.{FitsVec, FitsRec, FitsMsg}
-use Rattle.record.specs.Ranges.{fieldTests, recordInRange, stampLawful, vecLawful, recordLawful, messageLawful}
+use Rattle.record.specs.Ranges.{recordInRange, stampLawful, vecLawful, recordLawful, messageLawful}
 
 -- ---- vectors
 
@@ -105,7 +105,7 @@ module _ (c : Setting) (p : ℕ) (r : Rec) where
   unfolding recordLawful recordInRange stampLawful
   record-facts t short =
       let both = and-yes (eqb (partitionOf c (r .id .key)) p) (recordInRange c r) t in
-      let (key, (source, (quality, (level, (stamp, (carried, _)))))) = every-yes (fieldTests c r) (both .1) in
+      let (key, (source, (quality, (level, (stamp, (carried, _)))))) = every-yes _ (both .1) in
       record {
         key = ltb-yes key;
         partition = eqb-yes (both .0);
@@ -120,7 +120,7 @@ module _ (c : Setting) (p : ℕ) (r : Rec) where
   unfolding recordLawful recordInRange stampLawful
   record-lawful R =
       yes-and (eqb (partitionOf c (r .id .key)) p) (recordInRange c r) (yes-eqb (R .partition))
-      (yes-every (fieldTests c r)
+      (yes-every _
       (yes-ltb (R .key), (yes-ltb (R .source), (yes-ltb (R .quality), (R .level, (yes-ltb (R .stamp), (vec-lawful c (r .carried) (R .carried), tt)))))))
 
   pub record-fits : c .sites ≤ 4 → LawfulRec c p r → FitsRec r

@@ -1,7 +1,7 @@
 -- What is lawful of a time, a stamp and a vector (R23), a record (R26) and a message (R27).
 use Prim.Native.Nat.{ℕ}
 use mathlib.Core.Bool.{Bool, cond, _&&_}
-use mathlib.Core.List.{List, [], _∷_}
+use mathlib.Core.List.{[], _∷_}
 use lib.Dec.{ltb, eqb}
 use Rattle.codec.specs.Below.{allBelow}
 use Rattle.codec.specs.Tests.{every}
@@ -23,18 +23,14 @@ unfoldable pub vecLawful : Setting → Vec → Bool
 vecLawful c v = allBelow width (λ i. cond (ltb i (c .sites)) (stampLawful c (v i)) (eqb (v i) 0))
 
 -- R26, whatever the partition: each field of a record in its range
-abbrev pub fieldTests : Setting → Rec → List Bool
-fieldTests c r =
-    ltb (r .id .key) 64
+unfoldable pub recordInRange : Setting → Rec → Bool
+recordInRange c r = every
+    (ltb (r .id .key) 64
     ∷ ltb (r .id .source) (c .sites)
     ∷ ltb (r .quality) 3
     ∷ levelLawful (r .level)
     ∷ stampLawful c (r .id .stamp)
-    ∷ vecLawful c (r .carried)
-    ∷ []
-
-unfoldable pub recordInRange : Setting → Rec → Bool
-recordInRange c r = every (fieldTests c r)
+    ∷ vecLawful c (r .carried) ∷ [])
 
 -- R26: a record of partition p
 unfoldable pub recordLawful : Setting → (p : ℕ) → Rec → Bool

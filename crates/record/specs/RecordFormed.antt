@@ -23,8 +23,7 @@ heartbeatFormed i b at = every
     ∷ eqb (load 1 b (at + 1)) i
     ∷ eqb (load 1 b (at + 2)) 0
     ∷ eqb (load 4 b (at + 4)) 0
-    ∷ allBelow width (λ e. eqb (loadVec b (at + 16) e) 0)
-    ∷ [])
+    ∷ allBelow width (λ e. eqb (loadVec b (at + 16) e) 0) ∷ [])
 
 -- R27: a message in use of the channel from site i at partition p has kind 1 or 2
 unfoldable pub messageFormed : Setting → (i p : ℕ) → List ℕ → (at : ℕ) → Bool

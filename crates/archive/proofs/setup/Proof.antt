@@ -5,6 +5,7 @@ use borrow.Author.Needs.{needs}
 use Rattle.codec.proofs.Tests.{fails, passes}
 use Rattle.protocol.specs.declared.Answer.the-variants.{Done}
 use Rattle.lawful.specs.LawfulValues.{settingLawful}
+use Rattle.lawful.proofs.Facts.{setting-tests}
 use Rattle.steps.specs.Step.{gives}
 use Rattle.archive.proofs.Calls.{setup-23, setup-11, setup-done}
 use Rattle.archive.proofs.setup.Statement.{statement}
@@ -27,8 +28,7 @@ number-lawful-requires-2 c κs = search needs
 -- the two tests are the setting's
 lawful-is : (k : tie.After-number-lawful2) → let a = k .before .before .before .before .args in
     (k .before .number-lawful .result && k .number-lawful2 .result) ≡ settingLawful (record { sites = a .sites; partitions = a .partitions })
-unfolding settingLawful
-lawful-is k = rw (k .before .number-lawful .ensures, k .number-lawful2 .ensures)
+lawful-is k = rw (k .before .number-lawful .ensures, k .number-lawful2 .ensures) (setting-tests _ _)
 
 refused-requires-2 : tie.Need-refused-requires-2
 refused-requires-2 c κs = search needs

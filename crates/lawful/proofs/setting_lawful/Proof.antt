@@ -1,6 +1,6 @@
 -- `lawful::setting_lawful` meets its contract: both numbers are lawful.
 use borrow.Author.Needs.{needs}
-use Rattle.lawful.specs.LawfulValues.{settingLawful}
+use Rattle.lawful.proofs.Facts.{setting-tests}
 use Rattle.lawful.proofs.setting_lawful.Statement.{statement}
 use Rattle.lawful.proofs.setting_lawful.Tie as tie
 
@@ -17,8 +17,7 @@ number-lawful-requires-2 : tie.Need-number-lawful-requires-2
 number-lawful-requires-2 c κs = search needs
 
 returns : tie.Need-returns
-unfolding settingLawful
-returns c = rw (c .before .before .number-lawful .ensures, c .number-lawful2 .ensures)
+returns c = rw (c .before .before .number-lawful .ensures, c .number-lawful2 .ensures) (setting-tests _ _)
 
 pub setting-lawful-spec : {M : Type 1} → statement M
 setting-lawful-spec =

@@ -6,6 +6,7 @@ use native.Mathlib.Omega.{arith}
 use borrow.Author.Tests.{lt-ltb, le-ltb, ne-eqb}
 use lib.Dec.{ltb}
 use borrow.Author.Needs.{needs}
+use Rattle.codec.proofs.Tests.{every-fails, every-joined}
 use Rattle.lawful.proofs.pages.page_keys.Statement.{statement}
 use Rattle.lawful.proofs.pages.page_keys.Tie as tie
 
@@ -25,7 +26,7 @@ returns-2 : tie.Need-returns-2
 returns-2 c =
     let at = c .before in
     let isOpen = sym (at .before .load-u8 .ensures) ∙ at .if1 .left in
-    rw (isOpen, no-key _ (c .if2 .taken))
+    rw isOpen (sym (every-fails _ 0 (no-key _ (c .if2 .taken))))
 
 keys-formed-requires : tie.Need-keys-formed-requires
 keys-formed-requires c κs = search needs
@@ -35,7 +36,7 @@ returns-3 c =
     let some = c .before in
     let at = some .before in
     let isOpen = sym (at .before .load-u8 .ensures) ∙ at .if1 .left in
-    rw (isOpen, some-key _ (some .if2 .left)) (c .keys-formed .ensures)
+    rw (isOpen, some-key _ (some .if2 .left)) (c .keys-formed .ensures ∙ sym (every-joined _))
 
 pub page-keys-spec : {M : Type 1} → statement M
 page-keys-spec =

@@ -1,7 +1,7 @@
 -- `lawful::sessions::page_lawful` meets its contract, whichever test fails first.
-use mathlib.Core.Bool.{and-false}
+use mathlib.Core.Path.{sym}
 use borrow.Author.Tests.{lt-leb, le-leb}
-use Rattle.codec.proofs.Tests.{fails, passes}
+use Rattle.codec.proofs.Tests.{fails, passes, every-fails, every-last}
 use Rattle.lawful.proofs.KeyTests.{pageLawful-in}
 use Rattle.lawful.proofs.sessions.page_lawful.Statement.{statement}
 use Rattle.lawful.proofs.sessions.page_lawful.Tie as tie
@@ -11,7 +11,7 @@ load-u8-requires : tie.Need-load-u8-requires
 load-u8-requires c κs = search needs
 
 returns : tie.Need-returns
-returns c = rw (pageLawful-in, lt-leb _ 8 (rw (c .before .load-u8 .ensures) at (c .if1 .taken)))
+returns c = rw pageLawful-in (sym (every-fails _ 0 (lt-leb _ 8 (rw (c .before .load-u8 .ensures) at (c .if1 .taken)))))
 
 page-keys-requires : tie.Need-page-keys-requires
 page-keys-requires c κs = search needs
@@ -20,7 +20,7 @@ returns-2 : tie.Need-returns-2
 returns-2 c =
     let count = c .before .before .before .load-u8 .ensures in
     let no = rw count at (fails (c .before .page-keys .ensures) (c .if2 .taken)) in
-    rw (pageLawful-in, no, and-false)
+    rw pageLawful-in (sym (every-fails _ 1 no))
 
 vector-formed-requires : tie.Need-vector-formed-requires
 vector-formed-requires c κs = search needs
@@ -28,7 +28,7 @@ vector-formed-requires c κs = search needs
 returns-3 : tie.Need-returns-3
 returns-3 c =
     let no = fails (c .before .vector-formed .ensures) (c .if3 .taken) in
-    rw (pageLawful-in, no, and-false, and-false)
+    rw pageLawful-in (sym (every-fails _ 2 no))
 
 vector-formed-requires-2 : tie.Need-vector-formed-requires-2
 vector-formed-requires-2 c κs = search needs
@@ -41,7 +41,7 @@ returns-4 c =
     let few = rw count at (at .if1 .left) in
     let yesKeys = rw count at (passes (keys .before .page-keys .ensures) (keys .if2 .left)) in
     let yesVec = passes (c .before .before .vector-formed .ensures) (c .before .if3 .left) in
-    rw (pageLawful-in, le-leb _ 8 few, yesKeys, yesVec, c .vector-formed2 .ensures)
+    rw (pageLawful-in, c .vector-formed2 .ensures) (sym (every-last _ (le-leb _ 8 few, (yesKeys, (yesVec, tt)))))
 
 pub page-lawful-spec : {M : Type 1} → statement M
 page-lawful-spec =

@@ -1,7 +1,7 @@
 -- `lawful::sessions::session_formed` meets its contract, whichever test fails first.
-use mathlib.Core.Bool.{and-false}
+use mathlib.Core.Path.{sym, _∙_}
 use borrow.Author.Tests.{lt-ltb, le-ltb}
-use Rattle.codec.proofs.Tests.{fails, passes}
+use Rattle.codec.proofs.Tests.{fails, passes, every-fails, every-last}
 use Rattle.parts.specs.Session.{sessionIn}
 use Rattle.lawful.specs.LawfulValues.{sessionLawful}
 use Rattle.lawful.specs.WellFormed.{sessionFormed}
@@ -14,14 +14,14 @@ load-u8-requires c κs = search needs
 
 returns : tie.Need-returns
 unfolding sessionFormed
-returns c = rw (le-ltb _ 2 (rw (c .before .load-u8 .ensures) at (c .if1 .taken)))
+returns c = sym (every-fails _ 0 (le-ltb _ 2 (rw (c .before .load-u8 .ensures) at (c .if1 .taken))))
 
 load-u8-requires-2 : tie.Need-load-u8-requires-2
 load-u8-requires-2 c κs = search needs
 
 returns-2 : tie.Need-returns-2
 unfolding sessionFormed
-returns-2 c = rw (le-ltb _ 2 (rw (c .before .load-u82 .ensures) at (c .if2 .taken)), and-false)
+returns-2 c = sym (every-fails _ 1 (le-ltb _ 2 (rw (c .before .load-u82 .ensures) at (c .if2 .taken))))
 
 site-lawful-requires : tie.Need-site-lawful-requires
 site-lawful-requires c κs = search needs
@@ -30,7 +30,7 @@ returns-3 : tie.Need-returns-3
 unfolding sessionFormed sessionLawful sessionIn
 returns-3 c =
     let no = fails (c .before .site-lawful .ensures) (c .if3 .taken) in
-    rw (no, and-false)
+    sym (every-fails _ 3 (every-fails _ 0 no))
 
 flags-formed-requires : tie.Need-flags-formed-requires
 flags-formed-requires c κs = search needs
@@ -39,7 +39,7 @@ returns-4 : tie.Need-returns-4
 unfolding sessionFormed
 returns-4 c =
     let no = fails (c .before .flags-formed .ensures) (c .if4 .taken) in
-    rw (no, and-false, and-false)
+    sym (every-fails _ 2 no)
 
 vector-formed-requires : tie.Need-vector-formed-requires
 vector-formed-requires c κs = search needs
@@ -48,7 +48,7 @@ returns-5 : tie.Need-returns-5
 unfolding sessionFormed sessionLawful sessionIn
 returns-5 c =
     let no = fails (c .before .vector-formed .ensures) (c .if5 .taken) in
-    rw (no, and-false, and-false)
+    sym (every-fails _ 3 (every-fails _ 1 no))
 
 page-lawful-requires : tie.Need-page-lawful-requires
 page-lawful-requires c κs = search needs
@@ -66,7 +66,7 @@ returns-6 c =
     let yesSite = passes (site .before .site-lawful .ensures) (site .if3 .left) in
     let yesMarks = passes (marks .before .flags-formed .ensures) (marks .if4 .left) in
     let yesVec = passes (vec .before .vector-formed .ensures) (vec .if5 .left) in
-    rw (yesOpen, yesPaged, yesSite, yesMarks, yesVec, c .page-lawful .ensures)
+    c .page-lawful .ensures ∙ sym (every-last _ (yesOpen, (yesPaged, (yesMarks, tt))) ∙ every-last _ (yesSite, (yesVec, tt)))
 
 pub session-formed-spec : {M : Type 1} → statement M
 session-formed-spec =

@@ -1,11 +1,12 @@
 -- `record::formed::heartbeat_formed` meets its contract: behind a key of 0 the comparisons with it are those with 0.
 use mathlib.Core.Path.{_≡_, refl, sym, _∙_}
-use mathlib.Core.Bool.{Bool, _&&_, and-true}
+use mathlib.Core.Bool.{Bool}
 use mathlib.Core.List.{[], _∷_}
-use Rattle.codec.specs.Tests.{every}
+use Rattle.codec.specs.Tests.{every, joined}
 use Rattle.codec.specs.Le.{load}
 use Rattle.codec.specs.Below.{allBelow}
 use Rattle.codec.proofs.Below.{allBelow-ext}
+use Rattle.codec.proofs.Tests.{every-fails, every-joined}
 use Rattle.vector.specs.Vec.{width}
 use Rattle.vector.specs.Entries.{loadVec}
 use Rattle.record.specs.RecordFormed.{heartbeatFormed}
@@ -23,13 +24,14 @@ leb-zero zero = refl
 leb-zero (suc n) = lt-leb (suc n) 0 (omega arith) ∙ sym (ne-eqb (suc n) 0 (omega arith))
 
 -- behind a key of 0, at most the key is 0
-with-key : (key level : ℕ) (v : ℕ → ℕ) (s q : Bool) → (eqb key 0 && (s && (q && (leb level key && allBelow width (λ e. leb (v e) key))))) ≡ every (eqb key 0 ∷ s ∷ q ∷ eqb level 0 ∷ allBelow width (λ e. eqb (v e) 0) ∷ [])
-unfolding every
+with-key : (key level : ℕ) (v : ℕ → ℕ) (s q : Bool) → joined (eqb key 0 ∷ s ∷ q ∷ leb level key ∷ allBelow width (λ e. leb (v e) key) ∷ []) ≡ every (eqb key 0 ∷ s ∷ q ∷ eqb level 0 ∷ allBelow width (λ e. eqb (v e) 0) ∷ [])
 with-key key level v s q = go (ℕ-discrete key 0)
   where
-    go : Dec (key ≡ 0) → (eqb key 0 && (s && (q && (leb level key && allBelow width (λ e. leb (v e) key))))) ≡ every (eqb key 0 ∷ s ∷ q ∷ eqb level 0 ∷ allBelow width (λ e. eqb (v e) 0) ∷ [])
-    go (yes z) = rw (z, leb-zero level, allBelow-ext width (λ e. leb (v e) 0) (λ e. eqb (v e) 0) (λ e b. leb-zero (v e)), and-true (allBelow width (λ e. eqb (v e) 0)))
-    go (no d) = rw (ne-eqb key 0 d)
+    go : Dec (key ≡ 0) → joined (eqb key 0 ∷ s ∷ q ∷ leb level key ∷ allBelow width (λ e. leb (v e) key) ∷ []) ≡ every (eqb key 0 ∷ s ∷ q ∷ eqb level 0 ∷ allBelow width (λ e. eqb (v e) 0) ∷ [])
+    go (yes z) =
+        rw (z, leb-zero level, allBelow-ext width (λ e. leb (v e) 0) (λ e. eqb (v e) 0) (λ e b. leb-zero (v e)))
+        (sym (every-joined (eqb 0 0 ∷ s ∷ q ∷ eqb level 0 ∷ allBelow width (λ e. eqb (v e) 0) ∷ [])))
+    go (no d) = rw (ne-eqb key 0 d) (sym (every-fails _ 0 refl))
 
 load-u8-requires : tie.Need-load-u8-requires
 load-u8-requires c κs = search needs
