@@ -1,15 +1,11 @@
 -- `record::bytes::store_message` meets its contract, variant by variant.
 use mathlib.Core.Path.{_∙_}
 use borrow.Author.Needs.{needs}
-use mir.ValLaws.{toZ-ofZ}
-use mir.Syntax.{w32}
 use Rattle.vector.proofs.Entries.{entry-zeros}
 use Rattle.record.specs.RecordBytes.{putRecord, putMessage}
 use Rattle.record.proofs.Meaning.{message-told}
 use Rattle.record.proofs.bytes.store_message.Statement.{statement}
 use Rattle.record.proofs.bytes.store_message.Tie as tie
-
--- `record::bytes::store_message` meets its contract, variant by variant.
 
 enum-known-message : tie.Need-enum-known-message
 enum-known-message c = search needs
@@ -29,10 +25,9 @@ same-length c = search needs
 returns : tie.Need-returns
 unfolding putMessage putRecord
 returns c =
-    let k = c .before .before .before .before .before .before in
+    let k = c .before .before .before .before .before in
     let x = k .before .before .before .args .x in
-    c .before .before .store-fields .ensures
-    ∙ rw (toZ-ofZ w32 (k .message .given .0 .1 .1 .1 .0) (search needs), message-told x _ (k .message .given .1))
+    c .before .before .store-fields .ensures ∙ rw (message-told x _ (k .message .given .1))
 
 same-length-2 : tie.Need-same-length-2
 same-length-2 c = search needs
