@@ -52,7 +52,7 @@ pub fn heard(t: &[u8], m: u8, p: u8) -> Vector
 // The newest record there that fits the read.
 pub fn newest(t: &[u8], m: u8, p: u8, w: Wanted) -> Found
     requires { ⌜ Long (now t) × T (wellFormed (now t)) × (m < 4) × (p < 4) ⌝ }
-    ensures { λ r. ⌜ (foundOf r ≡ found (settingIn (now (t .entry))) (fits w) (storeIn (nodeOf (siteOf (now (t .entry)) m) p))) × (r .reading .source < 4) ⌝ }
+    ensures { λ r. ⌜ (foundOf r ≡ found (settingIn (now (t .entry))) (fits w) (storeIn (nodeOf (siteOf (now (t .entry)) m) p))) × (r .newest .reading .source < 4) ⌝ }
 {
     search::newest(places::node(t, m, p), w)
 }

@@ -24,6 +24,7 @@ use protocol::Refusal;
 use protocol::Shown;
 use record::Letter;
 use record::Message;
+use record::Reading;
 use search::Found;
 use vector::Vector;
 
@@ -34,7 +35,7 @@ pub fn shown(x: Found) -> Answer
     if !x.found {
         return Answer::Nothing;
     }
-    let r = x.reading;
+    let r = x.newest.reading;
     Answer::Value(Shown {
         source: r.source,
         quality: r.quality,
@@ -45,14 +46,14 @@ pub fn shown(x: Found) -> Answer
 
 // The vector, raised by what a search gave: unchanged if nothing was found.
 pub fn raised_by(v: Vector, x: Found) -> Vector
-    requires { ⌜ x .reading .source < 4 ⌝ }
+    requires { ⌜ x .newest .reading .source < 4 ⌝ }
     ensures { λ r. ⌜ asVec r ≡ raisedBy (asVec v) (foundOf x) ⌝ }
 {
     if !x.found {
         return v;
     }
-    let r = x.reading;
-    let carried = r.carried;
+    let r = x.newest.reading;
+    let carried = x.newest.carried;
     v.raised(carried, r.source as usize, r.stamp)
 }
 
@@ -104,13 +105,13 @@ pub fn stored(s: u8, x: Session, p: u8, key: u8, quality: u8, level: i32, stamp:
 {
     let m = x.site;
     let old = x.vec;
-    let message = Message::Update {
+    let message = Message::Update(Reading {
         key,
         source: m,
         quality,
         level,
         stamp,
-    };
+    });
     let vec = old.with_entry(m as usize, stamp);
     Decided {
         answer: Answer::Stamped { source: m, stamp },

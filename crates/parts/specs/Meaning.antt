@@ -4,7 +4,6 @@ use lib.ListN.{getD}
 use Rattle.codec.specs.Tabulate.{tabulate}
 use Rattle.vector.specs.Meaning.{asVec}
 use Rattle.protocol.specs.State as State
-use Rattle.record.specs.declared.Message.the-variants as Message
 use Rattle.parts.specs.declared.Session.{Session}
 
 abbrev pub asSession : Session → State.Session

@@ -60,13 +60,7 @@ pub fn store(n: &mut [u8], x: Letter)
 {
     let message = x.message;
     match message {
-        Message::Update {
-            key: _,
-            source: _,
-            quality: _,
-            level: _,
-            stamp: _,
-        } => {
+        Message::Update(_) => {
             add(n, x);
         }
         Message::Heartbeat { stamp: _ } => {}

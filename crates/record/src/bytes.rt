@@ -3,15 +3,14 @@
 ghost use mathlib.Core.Path.{_≡_};
 ghost use Prim.Native.Nat.{_+_, _≤_};
 ghost use lib.ListN.{length};
-ghost use Rattle.vector.specs.Entries.{entry};
-ghost use Rattle.vector.specs.Meaning.{asVec};
 ghost use Rattle.protocol.specs.Record.{stampIn};
 ghost use Rattle.protocol.specs.Needs.{frontUpdates};
 ghost use Rattle.record.specs.RecordBytes.{recordAt, messageAt, putRecord, putMessage};
-ghost use Rattle.record.specs.Meaning.{recordWith, asRecord, asMessage};
+ghost use Rattle.record.specs.Meaning.{recordOf, asRecord, asMessage};
 ghost use mathlib.Core.List.{[], _∷_};
 use crate::Letter;
 use crate::Message;
+use crate::Reading;
 use crate::Record;
 use vector::Vector;
 
@@ -30,14 +29,14 @@ pub fn load_record(b: &[u8], at: usize) -> Record
     let level = codec::load_level(b, at + 4);
     let stamp = codec::load_u64(b, at + 8);
     let carried = vector::load_vector(b, at + 16);
-    Record {
+    let reading = Reading {
         key,
         source,
         quality,
         level,
         stamp,
-        carried,
-    }
+    };
+    Record { reading, carried }
 }
 
 // What is no update is read as a heartbeat.
@@ -47,14 +46,9 @@ pub fn load_message(b: &[u8], at: usize) -> Letter
 {
     if codec::load_u8(b, at + 3) == UPDATE {
         let r = load_record(b, at);
+        let reading = r.reading;
+        let message = Message::Update(reading);
         let carried = r.carried;
-        let message = Message::Update {
-            key: r.key,
-            source: r.source,
-            quality: r.quality,
-            level: r.level,
-            stamp: r.stamp,
-        };
         Letter { message, carried }
     } else {
         let message = Message::Heartbeat {
@@ -72,13 +66,7 @@ pub fn stamp(x: Letter) -> u64
 {
     let message = x.message;
     match message {
-        Message::Update {
-            key: _,
-            source: _,
-            quality: _,
-            level: _,
-            stamp,
-        } => stamp,
+        Message::Update(r) => r.stamp,
         Message::Heartbeat { stamp } => stamp,
     }
 }
@@ -89,38 +77,22 @@ pub fn is_update(x: Letter) -> bool
 {
     let message = x.message;
     match message {
-        Message::Update {
-            key: _,
-            source: _,
-            quality: _,
-            level: _,
-            stamp: _,
-        } => true,
+        Message::Update(_) => true,
         Message::Heartbeat { stamp: _ } => false,
     }
 }
 
 // The seven fields, in the order of their places.
-fn store_fields(
-    b: &mut [u8],
-    at: usize,
-    key: u8,
-    source: u8,
-    quality: u8,
-    kind: u8,
-    level: i32,
-    stamp: u64,
-    carried: Vector,
-)
+fn store_fields(b: &mut [u8], at: usize, kind: u8, r: Reading, carried: Vector)
     requires { ⌜ at + 48 ≤ length (now b) ⌝ }
-    ensures { λ _. ⌜ now (b .exit) ≡ putRecord (now (b .entry)) at kind (recordWith key source quality level stamp (asVec carried)) ⌝ }
+    ensures { λ _. ⌜ now (b .exit) ≡ putRecord (now (b .entry)) at kind (recordOf r carried) ⌝ }
 {
-    codec::store_u8(b, at, key);
-    codec::store_u8(b, at + 1, source);
-    codec::store_u8(b, at + 2, quality);
+    codec::store_u8(b, at, r.key);
+    codec::store_u8(b, at + 1, r.source);
+    codec::store_u8(b, at + 2, r.quality);
     codec::store_u8(b, at + 3, kind);
-    codec::store_level(b, at + 4, level);
-    codec::store_u64(b, at + 8, stamp);
+    codec::store_level(b, at + 4, r.level);
+    codec::store_u64(b, at + 8, r.stamp);
     vector::store_vector(b, at + 16, carried);
 }
 
@@ -131,18 +103,18 @@ pub fn store_message(b: &mut [u8], at: usize, m: u8, x: Letter)
 {
     let message = x.message;
     match message {
-        Message::Update {
-            key,
-            source,
-            quality,
-            level,
-            stamp,
-        } => {
-            let carried = x.carried;
-            store_fields(b, at, key, source, quality, UPDATE, level, stamp, carried);
+        Message::Update(r) => {
+            store_fields(b, at, UPDATE, r, x.carried);
         }
         Message::Heartbeat { stamp } => {
-            store_fields(b, at, 0, m, 0, HEARTBEAT, 0, stamp, Vector::ZERO);
+            let r = Reading {
+                key: 0,
+                source: m,
+                quality: 0,
+                level: 0,
+                stamp,
+            };
+            store_fields(b, at, HEARTBEAT, r, Vector::ZERO);
         }
     }
 }

@@ -1,34 +1,31 @@
-// A record's and a message's 48 bytes (R17). Here are the values that the code holds: a record, a message, and a letter, which is a
-// message with the vector that an update carries. The files: bytes (read and written), times (what is lawful of a time and a vector), formed (what is lawful of
-// a record's and a message's bytes).
+// A record's and a message's 48 bytes (R17). Here are the values that the code holds: a reading, which is a record's numbers, a record, a message, and a
+// letter, which is a message with the vector that an update carries. The files: bytes (read and written), times (what is lawful of a time and a vector),
+// formed (what is lawful of a record's and a message's bytes).
 use vector::Vector;
 
 pub mod bytes;
 pub mod formed;
 pub mod times;
 
-// A stored record.
-pub struct Record {
+// A record's numbers, without the vector that it carries.
+pub struct Reading {
     pub key: u8,
     pub source: u8,
     pub quality: u8,
     pub level: i32,
     pub stamp: u64,
+}
+
+// A stored record.
+pub struct Record {
+    pub reading: Reading,
     pub carried: Vector,
 }
 
 // R16: an update or a heartbeat. It holds numbers; an update's vector stands beside it.
 pub enum Message {
-    Update {
-        key: u8,
-        source: u8,
-        quality: u8,
-        level: i32,
-        stamp: u64,
-    },
-    Heartbeat {
-        stamp: u64,
-    },
+    Update(Reading),
+    Heartbeat { stamp: u64 },
 }
 
 pub struct Letter {

@@ -13,4 +13,4 @@ unfoldable pub fits : Wanted → Rec → Bool
 fits w r = ofKey (w .key) r && (not (w .paged) || atMost (r .carried) (asVec (w .snapshot)))
 
 abbrev pub foundOf : Found → Option Rec
-foundOf x = cond (x .found) (some (asRecord (x .reading))) none
+foundOf x = cond (x .found) (some (asRecord (x .newest))) none

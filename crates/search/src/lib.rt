@@ -9,6 +9,7 @@ ghost use Rattle.record.specs.RecordBytes.{recordAt};
 ghost use Rattle.parts.specs.Node.{slotAt, heldIn, storeIn};
 ghost use Rattle.search.specs.Found.{fits, foundOf};
 use parts::nodes;
+use record::Reading;
 use record::Record;
 use record::bytes;
 use vector::Vector;
@@ -20,19 +21,21 @@ pub struct Wanted {
     pub snapshot: Vector,
 }
 
-// What a search gives: the reading counts only if it was found.
+// What a search gives: the newest record counts only if one was found.
 pub struct Found {
     pub found: bool,
-    pub reading: Record,
+    pub newest: Record,
 }
 
 // What stands where nothing was found.
 const BLANK: Record = Record {
-    key: 0,
-    source: 0,
-    quality: 0,
-    level: 0,
-    stamp: 0,
+    reading: Reading {
+        key: 0,
+        source: 0,
+        quality: 0,
+        level: 0,
+        stamp: 0,
+    },
     carried: Vector::ZERO,
 };
 
@@ -97,18 +100,18 @@ fn newest_place(n: &[u8], held: usize, w: Wanted) -> usize
 // The newest record of a node that fits.
 pub fn newest(n: &[u8], w: Wanted) -> Found
     requires { ⌜ (length (now n) ≡ 1856) × (heldIn (now n) ≤ 32) × ((k : ℕ) → k < heldIn (now n) → recordAt (now n) (slotAt k) .id .source < 4) ⌝ }
-    ensures { λ r. ⌜ ((c : Setting) → foundOf r ≡ newest c (fits w) (storeIn (now (n .entry)))) × (r .reading .source < 4) ⌝ }
+    ensures { λ r. ⌜ ((c : Setting) → foundOf r ≡ newest c (fits w) (storeIn (now (n .entry)))) × (r .newest .reading .source < 4) ⌝ }
 {
     let held = nodes::held(n) as usize;
     let place = newest_place(n, held, w);
     if place == 0 {
         return Found {
             found: false,
-            reading: BLANK,
+            newest: BLANK,
         };
     }
     Found {
         found: true,
-        reading: bytes::load_record(n, 64 + 56 * (place - 1)),
+        newest: bytes::load_record(n, 64 + 56 * (place - 1)),
     }
 }

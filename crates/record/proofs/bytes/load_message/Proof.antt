@@ -2,8 +2,6 @@
 use mathlib.Core.Path.{sym, _∙_, ap}
 use borrow.Author.Tests.{ne-eqb}
 use borrow.Author.Needs.{needs}
-use mir.ValLaws.{toZ-ofZ}
-use mir.Syntax.{w32}
 use Rattle.protocol.specs.Record.{Update}
 use Rattle.record.specs.RecordBytes.{messageAt}
 use Rattle.record.proofs.bytes.load_message.Statement.{statement}
@@ -29,7 +27,7 @@ unfolding messageAt
 returns c =
     let got = c .before .before .load-record in
     let isUpdate = sym (c .before .before .before .before .load-u8 .ensures) ∙ c .before .before .before .if1 .taken in
-    rw (isUpdate, toZ-ofZ w32 (got .result .level) (search needs)) (ap Update (got .ensures))
+    rw isUpdate (ap Update (got .ensures))
 
 returns-2 : tie.Need-returns-2
 unfolding messageAt

@@ -56,13 +56,13 @@ returns c =
     let k7 = c .before .before in
     let k6 = k7 .before .before .before .before in
     let k5 = k6 .before .before .before .before in
-    let k4 = k5 .before .before .before .before in
+    let k4 = k5 .before .before .before .before .before in
     let k3 = k4 .before .before .before .before in
     let k2 = k3 .before .before .before .before in
     let k1 = k2 .before .before .before .before in
     let s = k1 .before .before .before in
     k7 .store-vector .ensures
-    ∙ rw (add-zero, k6 .store-u64 .ensures, k5 .store-level .ensures, toZ-ofZ w32 (s .args .level) (s .fits .level), k4 .store-u84 .ensures, k3 .store-u83 .ensures, k2 .store-u82 .ensures, k1 .store-u8 .ensures)
+    ∙ rw (add-zero, k6 .store-u64 .ensures, k5 .store-level .ensures, toZ-ofZ w32 (s .args .r .level) (search (needs, k5 .before .struct-told .given)), k4 .store-u84 .ensures, k3 .store-u83 .ensures, k2 .store-u82 .ensures, k1 .store-u8 .ensures)
 
 pub store-fields-spec : {M : Type 1} → statement M
 store-fields-spec =

@@ -1,8 +1,6 @@
 -- `record::bytes::store_message` meets its contract, variant by variant.
 use mathlib.Core.Path.{_∙_}
 use borrow.Author.Needs.{needs}
-use mir.ValLaws.{toZ-ofZ}
-use mir.Syntax.{w32}
 use Rattle.vector.proofs.Entries.{entry-zeros}
 use Rattle.record.specs.RecordBytes.{putMessage}
 use Rattle.record.proofs.Meaning.{message-told}
@@ -27,10 +25,9 @@ same-length c = search needs
 returns : tie.Need-returns
 unfolding putMessage
 returns c =
-    let k = c .before .before .before .before .before .before in
+    let k = c .before .before .before .before .before in
     let x = k .before .before .before .args .x in
-    c .before .before .store-fields .ensures
-    ∙ rw (toZ-ofZ w32 (k .message .given .0 .1 .1 .1 .0) (search needs), message-told x _ (k .message .given .1))
+    c .before .before .store-fields .ensures ∙ rw (message-told x _ (k .message .given .1))
 
 same-length-2 : tie.Need-same-length-2
 same-length-2 c = search needs
