@@ -38,6 +38,11 @@ class Definition:
         """A closed statement: the signature is `NAME : Type 0`."""
         return not self.kind and re.search(r'^[^:]* : Type 0$', self.lines[0]) is not None
 
+    def held(self):
+        """Of a type that the code declares: the types of its file that its fields have."""
+        words = re.findall(r'\w+', '\n'.join(self.lines[1:]))
+        return [t for t in self.file.definitions.values() if t is not self and t.name in words]
+
     def clauses(self):
         """The signature and each clause, with the lines that continue it."""
         return re.split(r'\n(?=\S)', '\n'.join(self.lines))
@@ -164,7 +169,7 @@ def reached(roots):
         d = todo.pop()
         if d not in seen:
             seen.add(d)
-            todo += d.uses() if d.kind != 'type' else []
+            todo += d.uses() if d.kind != 'type' else d.held()
     return seen
 
 
