@@ -49,10 +49,16 @@ pub fn heard(t: &[u8], m: u8, p: u8) -> Vector
     nodes::heard(places::node(t, m, p))
 }
 
-// The newest record there that fits the read.
-pub fn newest(t: &[u8], m: u8, p: u8, w: Wanted) -> Found
+// The newest record there that fits the read. What the read asks becomes one value only here: so the compiler sees at each call whether there is a page, and
+// leaves the other kind of search out.
+pub fn newest(t: &[u8], m: u8, p: u8, key: u8, paged: bool, snapshot: Vector) -> Found
     requires { ⌜ Long (now t) × T (wellFormed (now t)) × (m < 4) × (p < 4) ⌝ }
-    ensures { λ r. ⌜ (foundOf r ≡ found (settingIn (now (t .entry))) (fits w) (storeIn (nodeOf (siteOf (now (t .entry)) m) p))) × (r .newest .reading .source < 4) ⌝ }
+    ensures { λ r. ⌜ (foundOf r ≡ found (settingIn (now (t .entry))) (fits (record { key = key; paged = paged; snapshot = snapshot })) (storeIn (nodeOf (siteOf (now (t .entry)) m) p))) × (r .newest .reading .source < 4) ⌝ }
 {
+    let w = Wanted {
+        key,
+        paged,
+        snapshot,
+    };
     search::newest(places::node(t, m, p), w)
 }

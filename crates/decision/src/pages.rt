@@ -16,7 +16,6 @@ use outcome::keeping;
 use outcome::marks;
 use outcome::raising;
 use protocol::Answer;
-use search::Wanted;
 
 // BEGIN of a page of the first `count` keys, with the node of partition p as its coordinator.
 pub fn begin(t: &[u8], s: u8, p: u8, count: u8, keys: [u8; 8]) -> Decided
@@ -61,12 +60,7 @@ pub fn read(t: &[u8], s: u8, k: u8) -> Decided
     if !page.at_most(lookup::heard(t, m, p)) {
         return answers::refused(3);
     }
-    let wanted = Wanted {
-        key: k,
-        paged: true,
-        snapshot: page,
-    };
-    let found = lookup::newest(t, m, p, wanted);
+    let found = lookup::newest(t, m, p, k, true, page);
     answers::kept(answers::shown(found), s, keeping::read_on(x, k, found))
 }
 

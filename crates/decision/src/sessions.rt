@@ -15,7 +15,6 @@ use outcome::answers;
 use outcome::keeping;
 use outcome::raising;
 use protocol::Answer;
-use search::Wanted;
 use vector::Vector;
 
 // OPEN of session s at site m.
@@ -60,11 +59,6 @@ pub fn get(t: &[u8], s: u8, k: u8) -> Decided
     if !vec.at_most_but(heard, m as usize) {
         return answers::refused(3);
     }
-    let wanted = Wanted {
-        key: k,
-        paged: false,
-        snapshot: Vector::ZERO,
-    };
-    let found = lookup::newest(t, m, p, wanted);
+    let found = lookup::newest(t, m, p, k, false, Vector::ZERO);
     answers::kept(answers::shown(found), s, raising::raised_by(x, found))
 }
