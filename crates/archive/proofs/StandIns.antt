@@ -16,7 +16,7 @@ use Rattle.protocol.specs.Record.{Setting}
 use Rattle.protocol.specs.State.{setup}
 use Rattle.protocol.specs.Event.{DELIVER}
 use Rattle.protocol.specs.declared.Refusal.{Refusal}
-use Rattle.protocol.specs.declared.Shown.{Shown}
+use Rattle.protocol.specs.declared.Reading.{Reading}
 use Rattle.protocol.specs.declared.Answer.the-variants.{Done, Value, Refused}
 use Rattle.protocol.specs.Step.{step, next, after}
 use Rattle.protocol.proofs.Runs.{computing, showing}
@@ -121,7 +121,7 @@ shows-two : stepCall (tableAfter table (shows 2)) gets .answer ≡ showing 0 0 (
 unfolding reading shows
 shows-two = answer-is (shows 2) gets tt
 
-same-level : (F : Step) (l : ℤ) → ((t e : List ℕ) (v : Shown) → F t e .answer ≡ Value v → v .level ≡ l) → Meets F → ⊥
+same-level : (F : Step) (l : ℤ) → ((t e : List ℕ) (v : Reading) → F t e .answer ≡ Value v → v .level ≡ l) → Meets F → ⊥
 same-level F l r m =
     let a : pos 1 ≡ l = r (tableAfter table (shows 1)) gets _ (ap (λ c. c .answer) (m (tableAfter table (shows 1)) gets) ∙ shows-one) in
     let b : pos 2 ≡ l = r (tableAfter table (shows 2)) gets _ (ap (λ c. c .answer) (m (tableAfter table (shows 2)) gets) ∙ shows-two) in

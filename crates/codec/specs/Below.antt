@@ -1,7 +1,6 @@
 -- A test of every number below n. The laws are in proofs/Below.
-use Prim.Native.Nat.{ℕ, zero, suc, max}
-use mathlib.Core.Bool.{Bool, true, cond, _&&_, _||_}
-use lib.Dec.{leb, eqb}
+use Prim.Native.Nat.{ℕ, zero, suc}
+use mathlib.Core.Bool.{Bool, true, _&&_}
 
 -- the test f holds at every number below n
 unfoldable pub allBelow : ℕ → (ℕ → Bool) → Bool

@@ -53,7 +53,7 @@ pub fn heard(t: &[u8], m: u8, p: u8) -> Vector
 // leaves the other kind of search out.
 pub fn newest(t: &[u8], m: u8, p: u8, key: u8, paged: bool, snapshot: Vector) -> Found
     requires { ⌜ Long (now t) × T (wellFormed (now t)) × (m < 4) × (p < 4) ⌝ }
-    ensures { λ r. ⌜ (foundOf r ≡ found (settingIn (now (t .entry))) (fits (record { key = key; paged = paged; snapshot = snapshot })) (storeIn (nodeOf (siteOf (now (t .entry)) m) p))) × (r .newest .reading .source < 4) ⌝ }
+    ensures { λ r. ⌜ (foundOf r ≡ found (settingIn (now (t .entry))) (fits (record { key = key; paged = paged; snapshot = snapshot })) (storeIn (nodeOf (siteOf (now (t .entry)) m) p))) × (r .newest .numbers .source < 4) ⌝ }
 {
     let w = Wanted {
         key,

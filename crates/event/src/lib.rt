@@ -2,7 +2,7 @@
 // field is in flags, the range of each field in bounds. It reads the event alone.
 ghost use mathlib.Core.Path.{_≡_};
 ghost use mathlib.Core.Bool.{true, _&&_};
-ghost use Prim.Native.Nat.{_+_, _<_, _-_};
+ghost use Prim.Native.Nat.{_<_, _-_};
 ghost use lib.ListN.{length};
 ghost use Rattle.codec.specs.Below.{allBelow};
 ghost use Rattle.protocol.specs.Needs.{ranges};

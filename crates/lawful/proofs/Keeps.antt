@@ -6,7 +6,6 @@ use mathlib.Core.Path.{_≡_, sym, subst, _∙_}
 use mathlib.Core.Bool.{_&&_}
 use mathlib.Core.List.{List, [], _∷_}
 use lib.Dec.{T, ltb, eqb}
-use lib.ListN.{length}
 use mir.Facts.{and-yes, ltb-yes}
 use Rattle.codec.specs.Le.{Bytes}
 use Rattle.codec.specs.Part.{Keeps}

@@ -20,11 +20,11 @@ use crate::Effect;
 use crate::keeping;
 use parts::Session;
 use protocol::Answer;
+use protocol::Reading;
 use protocol::Refusal;
-use protocol::Shown;
 use record::Letter;
 use record::Message;
-use record::Reading;
+use record::Numbers;
 use search::Found;
 use vector::Vector;
 
@@ -35,8 +35,8 @@ pub fn shown(x: Found) -> Answer
     if !x.found {
         return Answer::Nothing;
     }
-    let r = x.newest.reading;
-    Answer::Value(Shown {
+    let r = x.newest.numbers;
+    Answer::Value(Reading {
         source: r.source,
         quality: r.quality,
         level: r.level,
@@ -46,13 +46,13 @@ pub fn shown(x: Found) -> Answer
 
 // The vector, raised by what a search gave: unchanged if nothing was found.
 pub fn raised_by(v: Vector, x: Found) -> Vector
-    requires { ⌜ x .newest .reading .source < 4 ⌝ }
+    requires { ⌜ x .newest .numbers .source < 4 ⌝ }
     ensures { λ r. ⌜ asVec r ≡ raisedBy (asVec v) (foundOf x) ⌝ }
 {
     if !x.found {
         return v;
     }
-    let r = x.newest.reading;
+    let r = x.newest.numbers;
     let carried = x.newest.carried;
     v.raised(carried, r.source as usize, r.stamp)
 }
@@ -105,7 +105,7 @@ pub fn stored(s: u8, x: Session, p: u8, key: u8, quality: u8, level: i32, stamp:
 {
     let m = x.site;
     let old = x.vec;
-    let message = Message::Update(Reading {
+    let message = Message::Update(Numbers {
         key,
         source: m,
         quality,

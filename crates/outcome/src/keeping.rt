@@ -68,7 +68,7 @@ pub fn begun(x: Session, coordinator: Vector, keys: [u8; 8], count: u8) -> Sessi
 
 // With key k of its page read, and gathered what was found.
 pub fn read_on(x: Session, k: u8, found: Found) -> Session
-    requires { ⌜ (x .count ≤ 8) × (found .newest .reading .source < 4) ⌝ }
+    requires { ⌜ (x .count ≤ 8) × (found .newest .numbers .source < 4) ⌝ }
     ensures { λ r. ⌜ asSession r ≡ withPage (asSession x) (readOn (asSession x .page) k (foundOf found)) ⌝ }
 {
     let keys = x.keys;

@@ -44,13 +44,13 @@ pub fn lent(x: Session, carried: Vector, source: u8, stamp: u64) -> Session
 
 // A session after a read: raised by the record that was found, or as it is.
 pub fn raised_by(x: Session, found: Found) -> Session
-    requires { ⌜ found .newest .reading .source < 4 ⌝ }
+    requires { ⌜ found .newest .numbers .source < 4 ⌝ }
     ensures { λ r. ⌜ asSession r ≡ withVec (asSession x) (raisedBy (asSession x .vec) (foundOf found)) ⌝ }
 {
     if !found.found {
         return x;
     }
-    let r = found.newest.reading;
+    let r = found.newest.numbers;
     let carried = found.newest.carried;
     lent(x, carried, r.source, r.stamp)
 }

@@ -5,7 +5,7 @@ use mathlib.Core.Option.{Option, some, none}
 use lib.IntN.{ℤ, pos}
 use Rattle.protocol.specs.Record.{Rec}
 pub use Rattle.protocol.specs.declared.Refusal.{Refusal}
-pub use Rattle.protocol.specs.declared.Shown.{Shown}
+pub use Rattle.protocol.specs.declared.Reading.{Reading}
 pub use Rattle.protocol.specs.declared.Answer.{Answer}
 pub use Rattle.protocol.specs.declared.Values.{Values}
 pub use Rattle.protocol.specs.declared.Answer.the-variants.{Done, Stamped, Value, Nothing, Refused}

@@ -12,8 +12,8 @@ pub struct Refusal {
     pub stamp: u64,
 }
 
-// What an answer shows of a record.
-pub struct Shown {
+// A reading as an answer shows it.
+pub struct Reading {
     pub source: u8,
     pub quality: u8,
     pub level: i32,
@@ -23,7 +23,7 @@ pub struct Shown {
 pub enum Answer {
     Done,
     Stamped { source: u8, stamp: u64 },
-    Value(Shown),
+    Value(Reading),
     Nothing,
     Refused(Refusal),
 }

@@ -10,7 +10,7 @@ ghost use Rattle.record.specs.Meaning.{recordOf, asRecord, asMessage};
 ghost use mathlib.Core.List.{[], _∷_};
 use crate::Letter;
 use crate::Message;
-use crate::Reading;
+use crate::Numbers;
 use crate::Record;
 use vector::Vector;
 
@@ -29,14 +29,14 @@ pub fn load_record(b: &[u8], at: usize) -> Record
     let level = codec::load_level(b, at + 4);
     let stamp = codec::load_u64(b, at + 8);
     let carried = vector::load_vector(b, at + 16);
-    let reading = Reading {
+    let numbers = Numbers {
         key,
         source,
         quality,
         level,
         stamp,
     };
-    Record { reading, carried }
+    Record { numbers, carried }
 }
 
 // What is no update is read as a heartbeat.
@@ -46,8 +46,8 @@ pub fn load_message(b: &[u8], at: usize) -> Letter
 {
     if codec::load_u8(b, at + 3) == UPDATE {
         let r = load_record(b, at);
-        let reading = r.reading;
-        let message = Message::Update(reading);
+        let numbers = r.numbers;
+        let message = Message::Update(numbers);
         let carried = r.carried;
         Letter { message, carried }
     } else {
@@ -83,7 +83,7 @@ pub fn is_update(x: Letter) -> bool
 }
 
 // The seven fields, in the order of their places.
-fn store_fields(b: &mut [u8], at: usize, kind: u8, r: Reading, carried: Vector)
+fn store_fields(b: &mut [u8], at: usize, kind: u8, r: Numbers, carried: Vector)
     requires { ⌜ at + 48 ≤ length (now b) ⌝ }
     ensures { λ _. ⌜ now (b .exit) ≡ putRecord (now (b .entry)) at kind (recordOf r carried) ⌝ }
 {
@@ -107,7 +107,7 @@ pub fn store_message(b: &mut [u8], at: usize, m: u8, x: Letter)
             store_fields(b, at, UPDATE, r, x.carried);
         }
         Message::Heartbeat { stamp } => {
-            let r = Reading {
+            let r = Numbers {
                 key: 0,
                 source: m,
                 quality: 0,

@@ -1,4 +1,4 @@
-// A record's and a message's 48 bytes (R17). Here are the values that the code holds: a reading, which is a record's numbers, a record, a message, and a
+// A record's and a message's 48 bytes (R17). Here are the values that the code holds: a record's numbers, a record, a message, and a
 // letter, which is a message with the vector that an update carries. The files: bytes (read and written), times (what is lawful of a time and a vector),
 // formed (what is lawful of a record's and a message's bytes).
 use vector::Vector;
@@ -8,7 +8,7 @@ pub mod formed;
 pub mod times;
 
 // A record's numbers, without the vector that it carries.
-pub struct Reading {
+pub struct Numbers {
     pub key: u8,
     pub source: u8,
     pub quality: u8,
@@ -18,13 +18,13 @@ pub struct Reading {
 
 // A stored record.
 pub struct Record {
-    pub reading: Reading,
+    pub numbers: Numbers,
     pub carried: Vector,
 }
 
 // R16: an update or a heartbeat. It holds numbers; an update's vector stands beside it.
 pub enum Message {
-    Update(Reading),
+    Update(Numbers),
     Heartbeat { stamp: u64 },
 }
 

@@ -9,7 +9,7 @@ ghost use Rattle.record.specs.RecordBytes.{recordAt};
 ghost use Rattle.parts.specs.Node.{slotAt, heldIn, storeIn};
 ghost use Rattle.search.specs.Found.{fits, foundOf};
 use parts::nodes;
-use record::Reading;
+use record::Numbers;
 use record::Record;
 use record::bytes;
 use vector::Vector;
@@ -29,7 +29,7 @@ pub struct Found {
 
 // What stands where nothing was found.
 const BLANK: Record = Record {
-    reading: Reading {
+    numbers: Numbers {
         key: 0,
         source: 0,
         quality: 0,
@@ -100,7 +100,7 @@ fn newest_place(n: &[u8], held: usize, w: Wanted) -> usize
 // The newest record of a node that fits.
 pub fn newest(n: &[u8], w: Wanted) -> Found
     requires { ⌜ (length (now n) ≡ 1856) × (heldIn (now n) ≤ 32) × ((k : ℕ) → k < heldIn (now n) → recordAt (now n) (slotAt k) .id .source < 4) ⌝ }
-    ensures { λ r. ⌜ ((c : Setting) → foundOf r ≡ newest c (fits w) (storeIn (now (n .entry)))) × (r .newest .reading .source < 4) ⌝ }
+    ensures { λ r. ⌜ ((c : Setting) → foundOf r ≡ newest c (fits w) (storeIn (now (n .entry)))) × (r .newest .numbers .source < 4) ⌝ }
 {
     let held = nodes::held(n) as usize;
     let place = newest_place(n, held, w);

@@ -3,7 +3,6 @@
 // table's middle.
 ghost use mathlib.Core.Path.{_≡_};
 ghost use Prim.Native.Nat.{_-_, _≤_, _<_};
-ghost use lib.ListN.{length};
 ghost use Rattle.codec.specs.Le.{load};
 ghost use Rattle.protocol.specs.Meaning.{settingOf};
 ghost use Rattle.protocol.specs.Change.{SetSession, SetClock, Publish, Receive};

@@ -1,7 +1,7 @@
 -- `lawful::sessions_formed` meets its contract: the first s sessions passed.
 use mathlib.Core.Path.{_≡_, sym}
 use mathlib.Core.Bool.{true}
-use Prim.Native.Nat.{ℕ, _-_, _≤_}
+use Prim.Native.Nat.{_-_, _≤_}
 use native.Mathlib.Omega.{arith}
 use Rattle.codec.specs.Below.{allBelow}
 use Rattle.codec.proofs.Tests.{fails, passes}

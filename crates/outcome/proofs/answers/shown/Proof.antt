@@ -16,7 +16,7 @@ unfolding shown
 returns-2 c =
     let e = c .before .before in
     let x = e .before .before .args .x in
-    rw (not-false (x .found) (e .if1 .left), toZ-ofZ w32 (x .newest .reading .level) (record { sfits = search needs }))
+    rw (not-false (x .found) (e .if1 .left), toZ-ofZ w32 (x .newest .numbers .level) (record { sfits = search needs }))
 
 pub shown-spec : {M : Type 1} → statement M
 shown-spec = tie.close (tie.spec returns returns-2)

@@ -1,7 +1,4 @@
 -- `outcome::answers::stored` meets its contract: the message carries the old vector, and the session has the new one.
-use mathlib.Core.Path.{_≡_}
-use native.Mathlib.Omega.{arith}
-use lib.ListN.{length}
 use mir.ValLaws.{toZ-ofZ}
 use mir.Syntax.{w32}
 use Rattle.protocol.specs.Serve.{written}
