@@ -1,5 +1,5 @@
 -- `decision::pages::read` meets its contract: each return is a rung of the ladder.
-use mathlib.Core.Path.{_≡_, sym, _∙_}
+use mathlib.Core.Path.{_≡_, sym, ap, _∙_}
 use mathlib.Core.Bool.{true}
 use borrow.Author.Tests.{not-true, not-false}
 use borrow.Author.Needs.{needs}
@@ -51,7 +51,12 @@ shows : (c : tie.After-newest) → let k = loaded (c .before .before .before .be
     let a = k .before .before .args in
     foundOf (c .newest .result) ≡ found (settingIn (a .t .now)) (fitsPage (a .k) (asVec (x .snapshot))) (storedBy (a .t .now) (x .site) (a .k))
 unfolding loaded
-shows c = c .newest .ensures .0 ∙ rw (fits-page, c .before .before .before .before .partition .ensures .0)
+shows c =
+    let k = loaded (c .before .before .before .before .before) in
+    let a = k .before .before .args in
+    let x = k .session .result in
+    rw (c .before .before .before .before .partition .ensures .0) at (c .newest .ensures .0)
+    ∙ ap (λ fit. found (settingIn (a .t .now)) fit (storedBy (a .t .now) (x .site) (a .k))) (fits-page (a .k) (x .snapshot))
 
 -- ---- the needs
 
