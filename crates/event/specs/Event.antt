@@ -15,7 +15,7 @@ use Rattle.protocol.specs.Needs.{Need}
 unfoldable pub codeLawful : List ℕ → Bool
 codeLawful e = ltb 0 (load 1 e 0) && ltb (load 1 e 0) 11
 
--- a page has as many keys as the count says
+-- a page has as many keys as the count says; a code that is none also reads as some event, and 10 comes before it
 unfoldable pub eventOf : List ℕ → Event
 eventOf e =
     let m = load 1 e 1 in
