@@ -34,7 +34,7 @@ load-putAll-other at n (field p v x ∷ fs) t w j h o =
     ∙ load-put-other w v t (at + p) x j (λ k a b c d. o k a b (omega arith) (omega arith))
 
 -- a load in the run that the fields leave clear
-pub load-putAll-clear : (at : ℕ) (fs : List Field) (t : List ℕ) (w j : ℕ) → T (clear j w fs) → load w (putAll at fs t) (at + j) ≡ load w t (at + j)
+load-putAll-clear : (at : ℕ) (fs : List Field) (t : List ℕ) (w j : ℕ) → T (clear j w fs) → load w (putAll at fs t) (at + j) ≡ load w t (at + j)
 load-putAll-clear at [] t w j h = refl
 load-putAll-clear at (field p v x ∷ fs) t w j h =
     let before = leb (j + w) p in

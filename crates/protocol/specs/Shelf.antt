@@ -8,5 +8,6 @@ use Rattle.protocol.specs.Record.{Setting, Rec, newest}
 unfoldable pub shelve : Setting → (l rs : List Rec) → List Rec
 shelve c l rs = l ++ rs
 
+-- what a read finds in l
 unfoldable pub found : Setting → (Rec → Bool) → (l : List Rec) → Option Rec
 found c fit l = newest c fit l
