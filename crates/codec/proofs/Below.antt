@@ -1,15 +1,15 @@
--- A test of every number below n. In order: what it says of each number and what it follows from; two such tests joined; the test from the front; and a claim
--- of every number below n, made number after number.
+-- A test of every number below n. In order: what it says of each number and what it follows from; two such tests joined; the test from the front; a walk;
+-- the first number at which it fails; and a claim of every number below n, made number after number.
 use Prim.Native.Nat.{ℕ, zero, suc, _<_, _+_}
 use native.Mathlib.Decide.{decLt}
 use native.Mathlib.Omega.{arith}
 use native.Mathlib.Numerals.{add-one}
 use mathlib.Core.Path.{_≡_, refl, sym, subst}
-use mathlib.Core.Bool.{Bool, _&&_, and-true, and-assoc, true, false}
+use mathlib.Core.Bool.{Bool, true, false, not, _&&_, and-true, and-assoc}
 use lib.Dec.{T}
-use mir.Facts.{and-yes, yes-and}
-use Rattle.codec.specs.Below.{allBelow}
-use Rattle.codec.proofs.Tests.{and-swap}
+use mir.Facts.{T-not, and-yes, yes-and}
+use Rattle.codec.specs.Below.{allBelow, firstNot}
+use Rattle.codec.proofs.Tests.{cond-elim, and-swap}
 
 pub all-below-at : (n : ℕ) (f : ℕ → Bool) → T (allBelow n f) → (i : ℕ) → i < n → T (f i)
 unfolding allBelow
@@ -61,6 +61,51 @@ allBelow-fails (suc n) f i l q = go (allBelow n f) (λ k. allBelow-fails n f i k
     go b r (yes k) = rw (r k)
     go true r (no k) = subst (λ j. f j ≡ false) (let e : i ≡ n = omega arith in e) q
     go false r (no k) = refl
+
+-- ---- the first number at which the test fails
+
+pub firstNot-all : (n : ℕ) (f : ℕ → Bool) → allBelow n f ≡ true → firstNot n f ≡ n
+unfolding firstNot
+firstNot-all zero f h = refl
+firstNot-all (suc n) f h = rw h
+
+-- all below i hold and i does not
+pub firstNot-is : (n : ℕ) (f : ℕ → Bool) (i : ℕ) → i < n → allBelow i f ≡ true → f i ≡ false → firstNot n f ≡ i
+unfolding firstNot
+firstNot-is zero f i l h q = absurd (omega arith)
+firstNot-is (suc n) f i l h q = rw (allBelow-fails (suc n) f i l q) (go (firstNot-is n f i) (decLt i n))
+  where
+    go : (i < n → allBelow i f ≡ true → f i ≡ false → firstNot n f ≡ i) → Dec (i < n) → firstNot n f ≡ i
+    go r (yes k) = r k h q
+    go r (no k) = let e : i ≡ n = omega arith in subst (λ j. firstNot n f ≡ j) (sym e) (firstNot-all n f (subst (λ j. allBelow j f ≡ true) e h))
+
+-- f fails there, and at no lower number
+pub record FirstNot (n : ℕ) (f : ℕ → Bool) (i : ℕ) : Type 0 where
+  pub below : i < n
+  pub fails : T (not (f i))
+  pub lowest : (j : ℕ) → j < i → T (f j)
+
+pub first-not : (n : ℕ) (f : ℕ → Bool) → T (not (allBelow n f)) → FirstNot n f (firstNot n f)
+unfolding firstNot allBelow
+first-not zero f t = absurd t
+first-not (suc n) f t =
+    cond-elim (FirstNot (suc n) f) (allBelow n f && f n) (λ a. absurd (T-not (allBelow n f && f n) a t)) (λ b. go (allBelow n f) refl (first-not n f))
+  where
+    go : (b : Bool) → allBelow n f ≡ b → (T (not (allBelow n f)) → FirstNot n f (firstNot n f)) → FirstNot (suc n) f (firstNot n f)
+    go true e r = rw (firstNot-all n f e) (record {
+      below = omega arith;
+      fails = subst (λ b. T (not (b && f n))) e t;
+      lowest = all-below-at n f (subst T (sym e) tt);
+    })
+    go false e r =
+        let k = r (subst (λ b. T (not b)) (sym e) tt) in
+        let l = k .below in
+        record { below = omega arith; fails = k .fails; lowest = k .lowest }
+
+pub firstNot-ext : (n : ℕ) (f g : ℕ → Bool) → ((i : ℕ) → i < n → f i ≡ g i) → firstNot n f ≡ firstNot n g
+unfolding firstNot
+firstNot-ext zero f g h = refl
+firstNot-ext (suc n) f g h = rw (allBelow-ext (suc n) f g h, firstNot-ext n f g (λ i b. h i (omega arith)))
 
 -- ---- a claim of every number below n, one number after the other: first _ 1 (claim of 0) (first _ 0 (claim of 1) (none _))
 

@@ -1,14 +1,11 @@
--- What PUT is answered, in the words of the bytes. In order: when the clock is greater than two stamps, and the answers by what the session says.
-use Prim.Native.Nat.{ℕ, max, _≤_, _<_}
-use native.Mathlib.Omega.{arith}
+-- What PUT is answered, in the words of the bytes, by what the session says.
+use Prim.Native.Nat.{ℕ, _≤_, _<_}
 use mathlib.Core.Path.{_≡_, refl, _∙_}
-use mathlib.Core.Bool.{true, false, _&&_}
+use mathlib.Core.Bool.{true, false}
 use mathlib.Core.List.{List, []}
-use lib.Dec.{ltb, lt→ltb}
+use lib.Dec.{ltb}
 use lib.IntN.{ℤ}
-use mir.Facts.{and-yes, yes-and, ltb-yes}
 use Rattle.codec.specs.Le.{load}
-use Rattle.codec.proofs.Tests.{same-test}
 use Rattle.protocol.specs.Record.{partitionOf}
 use Rattle.protocol.specs.State.{Session}
 use Rattle.protocol.specs.Event.{PUT}
@@ -22,12 +19,6 @@ use Rattle.table.specs.Decode.{settingIn, decode}
 use Rattle.decision.specs.Answered.{answered}
 use Rattle.decision.proofs.Room.{roomy, store-room, send-room}
 use Rattle.decision.proofs.Ladders.{seenBy, session-says}
-
-pub after-both : (a b c : ℕ) → (ltb a c && ltb b c) ≡ ltb (max a b) c
-after-both a b c =
-    same-test (ltb a c && ltb b c) (ltb (max a b) c)
-    (λ y. let k = and-yes (ltb a c) (ltb b c) y in let g : a < c = ltb-yes (k .0) in let h : b < c = ltb-yes (k .1) in lt→ltb (max a b) c (omega arith))
-    (λ y. let g : max a b < c = ltb-yes y in yes-and (ltb a c) (ltb b c) (lt→ltb a c (omega arith)) (lt→ltb b c (omega arith)))
 
 -- session s is x, and p is the key's partition
 module _ (t : List ℕ) (s k q : ℕ) (l : ℤ) (x : Session) (e : x ≡ sessionIn (sessionOf t s)) (p : ℕ) (e′ : p ≡ partitionOf (settingIn t) k) where

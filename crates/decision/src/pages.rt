@@ -16,6 +16,7 @@ use outcome::keeping;
 use outcome::marks;
 use outcome::raising;
 use protocol::Answer;
+use vector::Vector;
 
 // BEGIN of a page of the first `count` keys, with the node of partition p as its coordinator.
 pub fn begin(t: &[u8], s: u8, p: u8, count: u8, keys: [u8; 8]) -> Decided
@@ -36,7 +37,8 @@ pub fn begin(t: &[u8], s: u8, p: u8, count: u8, keys: [u8; 8]) -> Decided
     answers::kept(Answer::Done, s, keeping::begun(x, coordinator, keys, count))
 }
 
-// R47, READ of key k: every entry of the node's vector is at least the page's, and then the newest candidate is shown.
+// R47, READ of key k: every entry of the node's vector is at least the page's, and then the newest candidate is shown. Where one is not it waits, for the lowest
+// such site (R51): no site is spared.
 pub fn read(t: &[u8], s: u8, k: u8) -> Decided
     requires { ⌜ Long (now t) × T (wellFormed (now t)) × (s < 16) ⌝ }
     ensures { λ r. ⌜ outcomeOf r ≡ answered (decode (now (t .entry))) (READ s k) ⌝ }
@@ -57,8 +59,9 @@ pub fn read(t: &[u8], s: u8, k: u8) -> Decided
     let m = x.site;
     let page = x.snapshot;
     let p = lookup::partition(t, k);
-    if !page.at_most(lookup::heard(t, m, p)) {
-        return answers::refused(3);
+    let heard = lookup::heard(t, m, p);
+    if !page.at_most(heard) {
+        return answers::waits_to_hear(page, heard, Vector::WIDTH);
     }
     let found = lookup::newest(t, m, p, k, true, page);
     answers::kept(answers::shown(found), s, keeping::read_on(x, k, found))

@@ -40,7 +40,8 @@ pub fn close_session(t: &[u8], s: u8) -> Decided
     answers::kept(Answer::Done, s, keeping::closed())
 }
 
-// R44, GET of key k: the node's entry for every other site is at least the session's, and then the newest record is shown.
+// R44, GET of key k: the node's entry for every other site is at least the session's, and then the newest record is shown. Where one is not it waits,
+// for the lowest such site (R51).
 pub fn get(t: &[u8], s: u8, k: u8) -> Decided
     requires { ⌜ Long (now t) × T (wellFormed (now t)) × (s < 16) ⌝ }
     ensures { λ r. ⌜ outcomeOf r ≡ answered (decode (now (t .entry))) (GET s k) ⌝ }
@@ -57,7 +58,7 @@ pub fn get(t: &[u8], s: u8, k: u8) -> Decided
     let p = lookup::partition(t, k);
     let heard = lookup::heard(t, m, p);
     if !vec.at_most_but(heard, m as usize) {
-        return answers::refused(3);
+        return answers::waits_to_hear(vec, heard, m as usize);
     }
     let found = lookup::newest(t, m, p, k, false, Vector::ZERO);
     answers::kept(answers::shown(found), s, raising::raised_by(x, found))

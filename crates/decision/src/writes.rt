@@ -7,7 +7,7 @@ ghost use Rattle.codec.specs.Below.{allBelow};
 ghost use Rattle.vector.specs.Entries.{entry};
 ghost use Rattle.vector.specs.Meaning.{asVec};
 ghost use Rattle.protocol.specs.Event.{CLOCK, BEAT, PUT, DELIVER};
-ghost use Rattle.protocol.specs.Needs.{putReady};
+ghost use Rattle.protocol.specs.Needs.{toPass};
 ghost use Rattle.parts.specs.Node.{clockIn, heardIn, heldIn};
 ghost use Rattle.parts.specs.Channel.{waitIn};
 ghost use Rattle.table.specs.Parts.{Long, siteOf, nodeOf, channelOf};
@@ -93,13 +93,12 @@ pub fn beat(t: &[u8], m: u8, p: u8) -> Decided
     answers::done(effect)
 }
 
-// R45: whether node (m, p) may stamp a record of a session with vector v. Its clock is greater than every entry of v and than its own entry.
-fn is_ready(t: &[u8], m: u8, p: u8, v: Vector) -> bool
+// R45: the stamp that the clock of node (m, p) must pass, for a session with vector v: the largest of v's entries and the node's own entry.
+fn to_pass(t: &[u8], m: u8, p: u8, v: Vector) -> u64
     requires { ⌜ Long (now t) × (m < 4) × (p < 4) ⌝ }
-    ensures { λ r. ⌜ r ≡ putReady (asVec v) (heardIn (nodeOf (siteOf (now (t .entry)) m) p) m) (clockIn (nodeOf (siteOf (now (t .entry)) m) p)) ⌝ }
+    ensures { λ r. ⌜ r ≡ toPass (asVec v) (heardIn (nodeOf (siteOf (now (t .entry)) m) p) m) ⌝ }
 {
-    let time = nodes::clock(places::node(t, m, p));
-    (v.largest() < time) & (own(t, m, p) < time)
+    vector::later(v.largest(), own(t, m, p))
 }
 
 pub fn put(t: &[u8], s: u8, key: u8, quality: u8, level: i32) -> Decided
@@ -122,10 +121,11 @@ pub fn put(t: &[u8], s: u8, key: u8, quality: u8, level: i32) -> Decided
         return answers::refused(21);
     }
     let v = x.vec;
-    if !is_ready(t, m, p, v) {
-        return answers::refused(3);
-    }
+    let pass = to_pass(t, m, p, v);
     let stamp = nodes::clock(places::node(t, m, p));
+    if stamp <= pass {
+        return answers::waits(m, pass);
+    }
     answers::stored(s, x, p, key, quality, level, stamp)
 }
 

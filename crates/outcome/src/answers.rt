@@ -1,16 +1,18 @@
-// Answers, and the decisions that are made of them. In order: the answer that shows a search's result, and the vector raised by it; then a refusal, a session that is
-// kept, an effect without a vector or a session, a record that is stored, a message that is taken.
+// Answers, and the decisions that are made of them. In order: the answer that shows a search's result, and the vector raised by it; then a refusal, a wait, a read
+// that waits, a session that is kept, an effect without a vector or a session, a record that is stored, a message that is taken.
 ghost use mathlib.Core.Path.{_≡_};
+ghost use mathlib.Core.Bool.{false};
 ghost use mathlib.Core.List.{[], _∷_};
 ghost use Prim.Native.Nat.{_<_};
-ghost use Rattle.vector.specs.Vec.{withEntry};
+ghost use Rattle.vector.specs.Vec.{atMostBut, firstShortBut, withEntry};
+ghost use Rattle.vector.specs.Entries.{entry};
 ghost use Rattle.vector.specs.Meaning.{asVec};
 ghost use Rattle.protocol.specs.Record.{Update, raisedBy};
 ghost use Rattle.protocol.specs.State.{withVec};
 ghost use Rattle.protocol.specs.Change.{Publish, Receive, SetSession};
 ghost use Rattle.protocol.specs.Serve.{written, _and_};
 ghost use Rattle.protocol.specs.declared.Answer.the-variants.{Done, Stamped};
-ghost use Rattle.protocol.specs.Event.{plain, shown};
+ghost use Rattle.protocol.specs.Event.{plain, waitFor, shown};
 ghost use Rattle.record.specs.Meaning.{asMessage};
 ghost use Rattle.parts.specs.Meaning.{asSession};
 ghost use Rattle.search.specs.Found.{foundOf};
@@ -57,21 +59,48 @@ pub fn raised_by(v: Vector, x: Found) -> Vector
     v.raised(carried, r.source as usize, r.stamp)
 }
 
-// A refusal, or the wait 3, with zeros after its number (R34); nothing changes.
-pub fn refused(number: u8) -> Decided
-    ensures { λ r. ⌜ outcomeOf r ≡ (Answer.Refused (plain number) and []) ⌝ }
+// Refused or waiting, and nothing changes.
+fn turned_away(refusal: Refusal) -> Decided
+    ensures { λ r. ⌜ outcomeOf r ≡ (Answer.Refused refusal and []) ⌝ }
 {
-    let answer = Answer::Refused(Refusal {
-        number,
-        source: 0,
-        stamp: 0,
-    });
     Decided {
-        answer,
+        answer: Answer::Refused(refusal),
         effect: Effect::Nothing,
         carried: Vector::ZERO,
         session: keeping::closed(),
     }
+}
+
+// A refusal, with zeros after its number (R34).
+pub fn refused(number: u8) -> Decided
+    ensures { λ r. ⌜ outcomeOf r ≡ (Answer.Refused (plain number) and []) ⌝ }
+{
+    turned_away(Refusal {
+        number,
+        source: 0,
+        stamp: 0,
+    })
+}
+
+// A wait for this site and this stamp (R51).
+pub fn waits(site: u8, stamp: u64) -> Decided
+    ensures { λ r. ⌜ outcomeOf r ≡ (Answer.Refused (waitFor site stamp) and []) ⌝ }
+{
+    turned_away(Refusal {
+        number: 3,
+        source: site,
+        stamp,
+    })
+}
+
+// A read that waits, for the lowest site but m at which what was heard is short of what is needed.
+pub fn waits_to_hear(needed: Vector, heard: Vector, m: usize) -> Decided
+    requires { ⌜ atMostBut m (asVec needed) (asVec heard) ≡ false ⌝ }
+    ensures { λ r. ⌜ outcomeOf r ≡ (Answer.Refused (waitFor (firstShortBut m (asVec needed) (asVec heard)) (asVec needed (firstShortBut m (asVec needed) (asVec heard)))) and []) ⌝ }
+{
+    let site = needed.first_short_but(heard, m);
+    let stamps = needed.entries;
+    waits(site as u8, stamps[site])
 }
 
 // The answer, and session s is now x.

@@ -9,13 +9,13 @@ use lib.Dec.{leb}
 use lib.ListN.{length}
 use lib.IntN.{ℤ}
 use borrow.Author.Tests.{lt-ltb}
-use Rattle.vector.specs.Vec.{larger, withEntry}
+use Rattle.vector.specs.Vec.{firstShort, firstShortBut, larger, withEntry}
 use Rattle.protocol.specs.Record.{partitionOf, Msg, Update, Heartbeat, ofKey, fitsPage, raisedBy}
 use Rattle.protocol.specs.Shelf.{found}
 use Rattle.protocol.specs.State.{Session, noPage, closed, opened, withVec, withPage}
-use Rattle.protocol.specs.Event.{OPEN, CLOSE, CLOCK, GET, PUT, BEGIN, READ, END, BEAT, DELIVER, Answer, Done, Stamped, Refused, plain, shown}
+use Rattle.protocol.specs.Event.{OPEN, CLOSE, CLOCK, GET, PUT, BEGIN, READ, END, BEAT, DELIVER, Answer, Done, Stamped, Refused, plain, waitFor, shown}
 use Rattle.protocol.specs.View.{View}
-use Rattle.protocol.specs.Needs.{getReady, putReady, readReady, beatSends, storeRoom, sendRoom, frontUpdates, distinct, awaited, allRead, needs}
+use Rattle.protocol.specs.Needs.{getReady, toPass, putReady, readReady, beatSends, storeRoom, sendRoom, frontUpdates, distinct, awaited, allRead, needs}
 use Rattle.protocol.specs.Change.{Change, SetSession, SetClock, Publish, Receive}
 use Rattle.protocol.specs.Serve.{Outcome, _and_, written, begun, readOn, taken, serve}
 use Rattle.protocol.specs.Step.{judge, judged}
@@ -23,6 +23,10 @@ use Rattle.protocol.specs.Step.{judge, judged}
 -- a refusal, and nothing changes
 abbrev pub refuse : ℕ → Outcome
 refuse n = Refused (plain n) and []
+
+-- a wait
+abbrev pub wait : (site stamp : ℕ) → Outcome
+wait m t = Refused (waitFor m t) and []
 
 -- session s becomes x
 abbrev pub keeps : Answer → ℕ → Session → Outcome
@@ -69,7 +73,8 @@ module _ (v : View) where
   getOf s k =
       let p = partitionOf (v .setting) k in
       let o = found (v .setting) (ofKey k) (v .store p) in
-      ifNoPage x (cond (getReady (x .site) (v .heard p) (x .vec)) (keeps (shown o) s (withVec x (raisedBy (x .vec) o))) (refuse 3))
+      let short = firstShortBut (x .site) (x .vec) (v .heard p) in
+      ifNoPage x (cond (getReady (x .site) (v .heard p) (x .vec)) (keeps (shown o) s (withVec x (raisedBy (x .vec) o))) (wait short (x .vec short)))
 
   pub get-judged : (s k : ℕ) → judged v (GET s k) ≡ getOf s k
   unfolding judged judge needs serve
@@ -82,7 +87,8 @@ module _ (v : View) where
   -- by room for the record and room in the node's channels
   abbrev pub putAt : (s k q : ℕ) (l : ℤ) (p : ℕ) (slot room : Bool) → Outcome
   putAt s k q l p slot room =
-      cond slot (cond room (cond (putReady (x .vec) (v .heard p (x .site)) (v .clock p)) (stampedBy s k q l p (v .clock p)) (refuse 3)) (refuse 21)) (refuse 22)
+      let own = v .heard p (x .site) in
+      cond slot (cond room (cond (putReady (x .vec) own (v .clock p)) (stampedBy s k q l p (v .clock p)) (wait (x .site) (toPass (x .vec) own))) (refuse 21)) (refuse 22)
 
   pub put-judged : (s k q : ℕ) (l : ℤ) →
       let p = partitionOf (v .setting) k in
@@ -102,7 +108,8 @@ module _ (v : View) where
       let p = partitionOf (v .setting) k in
       let g = x .page in
       let o = found (v .setting) (fitsPage k (g .vec)) (v .store p) in
-      ifPage x (cond (awaited k (g .marks)) (cond (readReady (v .heard p) (g .vec)) (keeps (shown o) s (withPage x (readOn g k o))) (refuse 3)) (refuse 16))
+      let short = firstShort (g .vec) (v .heard p) in
+      ifPage x (cond (awaited k (g .marks)) (cond (readReady (v .heard p) (g .vec)) (keeps (shown o) s (withPage x (readOn g k o))) (wait short (g .vec short))) (refuse 16))
 
   pub read-judged : (s k : ℕ) → judged v (READ s k) ≡ readOf s k
   unfolding judged judge needs serve

@@ -16,6 +16,7 @@ pub mod Causal
 pub mod Conserve
 pub mod Influence
 pub mod Numbers
+pub mod Waits
 pub mod Runs
 pub mod Marked
 pub mod Traps

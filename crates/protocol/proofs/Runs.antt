@@ -1,15 +1,15 @@
--- The lines of vectors/base/document-01.events, and a page with its refusals, computed by the checker.
+-- The lines of vectors/01/document-01.events, and a page with its refusals, computed by the checker.
 use Prim.Native.Nat.{ℕ}
 use mathlib.Core.Path.{_≡_, refl}
 use mathlib.Core.List.{List, [], _∷_}
 use lib.IntN.{ℤ, pos, negsuc}
-use Rattle.codec.specs.Below.{allBelow}
-use Rattle.vector.specs.Vec.{atMost, atMostBut, largestOf, largest, withEntry, atLeast, larger, raised}
+use Rattle.codec.specs.Below.{allBelow, firstNot}
+use Rattle.vector.specs.Vec.{atMost, atMostBut, firstShort, firstShortBut, largestOf, largest, withEntry, atLeast, larger, raised}
 use Rattle.protocol.specs.Record.{stampIn, recordsIn, rank, newer, newerOf, newest, ofKey, fitsPage, raisedBy}
 use Rattle.protocol.specs.Shelf.{shelve, found}
 use Rattle.protocol.specs.State.{noPage, closed, opened, setup}
-use Rattle.protocol.specs.Event.{Event, OPEN, CLOSE, CLOCK, GET, PUT, BEGIN, READ, END, BEAT, DELIVER, Answer, Done, Stamped, Value, Refused, plain, shown}
-use Rattle.protocol.specs.Needs.{levelLawful, keysLawful, ranges, getReady, putReady, readReady, beatSends, storeRoom, sendRoom, frontUpdates, distinct, awaited, allRead, needs}
+use Rattle.protocol.specs.Event.{Event, OPEN, CLOSE, CLOCK, GET, PUT, BEGIN, READ, END, BEAT, DELIVER, Answer, Done, Stamped, Value, Refused, plain, waitFor, shown}
+use Rattle.protocol.specs.Needs.{levelLawful, keysLawful, ranges, getReady, toPass, putReady, readReady, beatSends, storeRoom, sendRoom, frontUpdates, distinct, awaited, allRead, needs}
 use Rattle.protocol.specs.Change.{upd, at, setClock, publish, receive, apply, applyAll}
 use Rattle.protocol.specs.Serve.{written, unread, markRead, begun, readOn, taken, serve}
 use Rattle.protocol.specs.Step.{judge, judged, decide, step, next, Line, log}
@@ -20,11 +20,14 @@ answers (l ∷ ls) = l .says ∷ answers ls
 
 -- a proof that unfolds this lets the checker compute whole runs
 unfoldable pub computing : Unit {0}
-unfolding answers log step decide judge judged next serve needs ranges allBelow atMost atMostBut largestOf largest withEntry atLeast larger raised stampIn recordsIn rank newer newerOf newest ofKey fitsPage raisedBy noPage closed opened setup plain shown levelLawful keysLawful getReady putReady readReady beatSends storeRoom sendRoom frontUpdates distinct awaited allRead shelve found upd at setClock publish receive apply applyAll written unread markRead begun readOn taken
+unfolding answers log step decide judge judged next serve needs ranges allBelow firstNot atMost atMostBut firstShort firstShortBut largestOf largest withEntry atLeast larger raised stampIn recordsIn rank newer newerOf newest ofKey fitsPage raisedBy noPage closed opened setup plain waitFor shown levelLawful keysLawful getReady toPass putReady readReady beatSends storeRoom sendRoom frontUpdates distinct awaited allRead shelve found upd at setClock publish receive apply applyAll written unread markRead begun readOn taken
 computing = tt
 
 abbrev pub refused : ℕ → Answer
 refused n = Refused (plain n)
+
+abbrev pub waiting : (site stamp : ℕ) → Answer
+waiting m t = Refused (waitFor m t)
 
 abbrev pub showing : (source quality : ℕ) (level : ℤ) (stamp : ℕ) → Answer
 showing m q l t = Value (record { source = m; quality = q; level = l; stamp = t })
@@ -59,14 +62,14 @@ benchAnswers =
     ∷ Done
     ∷ Stamped 0 100
     ∷ Done
-    ∷ refused 3
+    ∷ waiting 0 100
     ∷ Done
     ∷ Stamped 0 101
     ∷ Done
     ∷ showing 0 1 (negsuc 29) 101
-    ∷ refused 3
+    ∷ waiting 0 101
     ∷ Done
-    ∷ refused 3
+    ∷ waiting 0 101
     ∷ Done
     ∷ Done
     ∷ Done

@@ -18,7 +18,7 @@ use Rattle.protocol.specs.Shelf.{found}
 use Rattle.protocol.specs.State.{Net, Session, State, noPage, closed, opened, withVec, withPage, setup}
 use Rattle.protocol.specs.Event.{Event, OPEN, CLOSE, CLOCK, GET, PUT, BEGIN, READ, END, BEAT, DELIVER, Answer, shown}
 use Rattle.protocol.specs.View.{view}
-use Rattle.protocol.specs.Needs.{putReady, beatSends, ranges, needs}
+use Rattle.protocol.specs.Needs.{toPass, putReady, beatSends, ranges, needs}
 use Rattle.protocol.specs.Change.{SetSession, Publish, apply, applyAll, setClock, publish, receive}
 use Rattle.protocol.specs.Serve.{written, begun, readOn, taken, serve}
 use Rattle.protocol.specs.Step.{step, next, after, log}
@@ -132,7 +132,7 @@ module _ (S : State) (h : History) (J : Inv S h) (s k q : ℕ) (l : ℤ) (time :
       told r (inr m) = let K = J .told r m in record { write = K .write; mem = List·Memᴰ·tail (K .mem); same = K .same; quality = K .quality; level = K .level }
 
 put-above-both : (v : Vec) (own clock : ℕ) → T (putReady v own clock) → ((i : ℕ) → i < width → v i < clock) × (own < clock)
-unfolding putReady
+unfolding putReady toPass
 put-above-both v own clock t =
     let a : max (largest v) own < clock = ltb-yes t in
     (λ i b. omega (arith, le-largest v i b), omega arith)

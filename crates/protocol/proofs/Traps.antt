@@ -13,13 +13,13 @@ use Rattle.protocol.specs.Shelf.{found}
 use Rattle.protocol.specs.State.{Session, State, withVec, withPage, setup}
 use Rattle.protocol.specs.Event.{Event, OPEN, CLOSE, CLOCK, GET, PUT, BEGIN, READ, END, BEAT, DELIVER, Answer, Stamped, Nothing, shown}
 use Rattle.protocol.specs.View.{View, view}
-use Rattle.protocol.specs.Needs.{_else_, ranges, putReady, storeRoom, sendRoom, needs}
+use Rattle.protocol.specs.Needs.{_else_, waits, ranges, toPass, putReady, storeRoom, sendRoom, needs}
 use Rattle.protocol.specs.Change.{SetSession, Publish, applyAll}
 use Rattle.protocol.specs.Serve.{Outcome, _and_, readOn, written, serve}
 use Rattle.protocol.specs.Step.{judge, judged, decide, Line, log}
 use Rattle.protocol.specs.Past.{_∈_, History, served, shownIn, shownOn, sameId, writerPast, withPasts, tell, wrote, noteServed, note, start, retell, history}
 use Rattle.protocol.specs.Causal.{NoOlder, Covers, CoversAll, GetCausal, PageCausal}
-use Rattle.protocol.proofs.Runs.{computing, refused, showing}
+use Rattle.protocol.proofs.Runs.{computing, waiting, showing}
 
 -- ---- the protocol by other rules: how a GET raises, which records a READ shows, when a PUT is served, what its record carries
 
@@ -47,7 +47,7 @@ judgedBy R v (PUT s k q l) =
     let x = v .session in
     let p = partitionOf (v .setting) k in
     let t = v .clock p in
-    judge (x .isOpen else 12 ∷ not (x .page .isOpen) else 14 ∷ storeRoom (v .store p) else 22 ∷ sendRoom v (x .site) p else 21 ∷ R .ready (x .vec) (v .heard p (x .site)) t else 3 ∷ [])
+    judge (x .isOpen else 12 ∷ not (x .page .isOpen) else 14 ∷ storeRoom (v .store p) else 22 ∷ sendRoom v (x .site) p else 21 ∷ waits (R .ready (x .vec) (v .heard p (x .site)) t) (x .site) (toPass (x .vec) (v .heard p (x .site))) ∷ [])
     (Stamped (x .site) t and
     Publish (x .site) p (Update (carrying (written x k q l t) (R .carries x t))) ∷
     SetSession s (withVec x (withEntry (x .vec) (x .site) t)) ∷ [])
@@ -131,7 +131,7 @@ chain =
     OPEN 0 0 ∷ OPEN 1 1 ∷ OPEN 2 2 ∷ OPEN 3 3 ∷ CLOCK 0 0 10 ∷ PUT 0 0 0 (pos 1) ∷ DELIVER 0 1 0 ∷ GET 1 0 ∷ CLOCK 1 1 20 ∷ PUT 1 1 0 (pos 2)
     ∷ DELIVER 1 2 1 ∷ GET 2 1 ∷ CLOCK 2 2 30 ∷ PUT 2 2 0 (pos 3) ∷ DELIVER 2 3 2 ∷ GET 3 2 ∷ CLOCK 2 0 30 ∷ BEAT 2 0 ∷ DELIVER 2 3 0 ∷ []
 
-chain-differs : Differ byStampOnly (chain ++ (GET 3 0 ∷ [])) (refused 3) Nothing
+chain-differs : Differ byStampOnly (chain ++ (GET 3 0 ∷ [])) (waiting 0 10) Nothing
 unfolding past lastOf stampOnly byStampOnly chain
 chain-differs = record { ours-says = refl; trap-says = refl }
 
@@ -178,7 +178,7 @@ unheard =
     DELIVER 0 2 0 ∷ DELIVER 0 2 0 ∷ GET 2 0 ∷ CLOCK 2 1 20 ∷ PUT 2 1 0 (pos 2) ∷ DELIVER 2 1 1 ∷ DELIVER 0 1 0 ∷ CLOCK 2 0 20 ∷ BEAT 2 0 ∷ DELIVER 2 1 0
     ∷ GET 1 1 ∷ []
 
-early-differs : Differ atHeartbeat early (refused 3) (Stamped 0 10)
+early-differs : Differ atHeartbeat early (waiting 0 10) (Stamped 0 10)
 unfolding past lastOf atHeartbeat early
 early-differs = record { ours-says = refl; trap-says = refl }
 

@@ -27,6 +27,10 @@ pub data Event : Type 0 where
 unfoldable pub plain : ℕ → Refusal
 plain n = record { number = n; source = 0; stamp = 0 }
 
+-- a wait, for this site and this stamp (R51)
+unfoldable pub waitFor : (site stamp : ℕ) → Refusal
+waitFor m t = record { number = 3; source = m; stamp = t }
+
 unfoldable pub shown : Option Rec → Answer
 shown none = Nothing
 shown (some r) = Value (record { source = r .id .source; quality = r .quality; level = r .level; stamp = r .id .stamp })

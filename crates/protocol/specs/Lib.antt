@@ -15,6 +15,7 @@ pub mod Past
 pub mod Causal
 pub mod Count
 pub mod Promises
+pub mod Waits
 -- ---- below the line: words of contracts inside and of proofs; nobody has to believe them
 pub mod Marked
 pub mod Search

@@ -1,4 +1,4 @@
--- What each event needs, from top to bottom (R40 to R50, R60), and the number given where a need fails. 3 is a wait.
+-- What each event needs, from top to bottom (R40 to R51, R60), and the number given where a need fails. 3 is a wait, and says what it waits for.
 -- 23, 24, 10 and the unused fields of 11 are about bytes and stand around the model.
 use Prim.Native.Nat.{ℕ, max}
 use mathlib.Core.Bool.{Bool, true, false, not, _&&_, _||_}
@@ -8,11 +8,11 @@ use lib.Dec.{leb, ltb, eqb}
 use lib.IntN.{ℤ, pos, negsuc}
 use Rattle.codec.specs.Below.{allBelow}
 use Rattle.codec.specs.Lists.{has}
-use Rattle.vector.specs.Vec.{Vec, atMost, atMostBut, largest}
+use Rattle.vector.specs.Vec.{Vec, atMost, atMostBut, firstShort, firstShortBut, largest}
 use Rattle.protocol.specs.Record.{Setting, partitionOf, Rec, Msg, Update, Heartbeat}
 use Rattle.protocol.specs.Times.{timeLimit}
 use Rattle.protocol.specs.State.{Mark}
-use Rattle.protocol.specs.Event.{Event, OPEN, CLOSE, CLOCK, GET, PUT, BEGIN, READ, END, BEAT, DELIVER, Refusal, plain}
+use Rattle.protocol.specs.Event.{Event, OPEN, CLOSE, CLOCK, GET, PUT, BEGIN, READ, END, BEAT, DELIVER, Refusal, plain, waitFor}
 use Rattle.protocol.specs.View.{View}
 
 infix 80 _else_
@@ -22,6 +22,9 @@ pub record Need : Type 0 where
 
 abbrev pub _else_ : Bool → ℕ → Need
 b else n = record { holds = b; refusal = plain n }
+
+abbrev pub waits : Bool → (site stamp : ℕ) → Need
+waits b m t = record { holds = b; refusal = waitFor m t }
 
 -- ---- 11: the range of each used field (R32), in the order of the event's bytes
 
@@ -53,9 +56,12 @@ ranges c (DELIVER i m p) = ltb m (c .sites) else 11 ∷ ltb p (c .partitions) el
 unfoldable pub getReady : (m : ℕ) (node session : Vec) → Bool
 getReady m node session = atMostBut m session node
 
--- R45, PUT: the clock is greater than every entry of the session's vector and than the node's own entry
+-- R45, PUT: the stamp that the clock must pass, every entry of the session's vector and the node's own entry
+unfoldable pub toPass : (session : Vec) (own : ℕ) → ℕ
+toPass session own = max (largest session) own
+
 unfoldable pub putReady : (session : Vec) (own clock : ℕ) → Bool
-putReady session own clock = ltb (max (largest session) own) clock
+putReady session own clock = ltb (toPass session own) clock
 
 -- R47, READ: every entry of the node's vector is at least the page's
 unfoldable pub readReady : (node page : Vec) → Bool
@@ -98,17 +104,20 @@ needs v (CLOSE s) = v .session .isOpen else 12 ∷ []
 needs v (CLOCK m p t) = leb (v .clock p) t else 19 ∷ []
 needs v (GET s k) =
     let x = v .session in
+    let node = v .heard (partitionOf (v .setting) k) in
+    let short = firstShortBut (x .site) (x .vec) node in
     x .isOpen else 12 ∷
     not (x .page .isOpen) else 14 ∷
-    getReady (x .site) (v .heard (partitionOf (v .setting) k)) (x .vec) else 3 ∷ []
+    waits (getReady (x .site) node (x .vec)) short (x .vec short) ∷ []
 needs v (PUT s k q l) =
     let x = v .session in
     let p = partitionOf (v .setting) k in
+    let own = v .heard p (x .site) in
     x .isOpen else 12 ∷
     not (x .page .isOpen) else 14 ∷
     storeRoom (v .store p) else 22 ∷
     sendRoom v (x .site) p else 21 ∷
-    putReady (x .vec) (v .heard p (x .site)) (v .clock p) else 3 ∷ []
+    waits (putReady (x .vec) own (v .clock p)) (x .site) (toPass (x .vec) own) ∷ []
 needs v (BEGIN s p ks) =
     let x = v .session in
     x .isOpen else 12 ∷
@@ -116,10 +125,12 @@ needs v (BEGIN s p ks) =
     distinct ks else 17 ∷ []
 needs v (READ s k) =
     let x = v .session in
+    let node = v .heard (partitionOf (v .setting) k) in
+    let short = firstShort (x .page .vec) node in
     x .isOpen else 12 ∷
     x .page .isOpen else 15 ∷
     awaited k (x .page .marks) else 16 ∷
-    readReady (v .heard (partitionOf (v .setting) k)) (x .page .vec) else 3 ∷ []
+    waits (readReady node (x .page .vec)) short (x .page .vec short) ∷ []
 needs v (END s) =
     let x = v .session in
     x .isOpen else 12 ∷

@@ -1,18 +1,16 @@
--- The laws of vectors. In order: tests of all entries, the order entry by entry (`LeV`), and for each way of raising a vector what it is above.
+-- The laws of vectors. In order: the order entry by entry (`LeV`) with its tests, the lowest site that is short, the largest entry, and for each way of raising a vector what it is above.
 -- None looks at the number of entries.
 use Prim.Native.Nat.{ℕ, zero, suc, _≤_, _<_, max}
 use native.Mathlib.Decide.{decLt}
 use native.Mathlib.Omega.{arith}
 use mathlib.Core.Path.{_≡_, refl, sym, subst, fun-ext}
 use mathlib.Core.Logic.{_⊎_, inl, inr, ⊎-elim}
-use mathlib.Core.Bool.{_||_}
+use mathlib.Core.Bool.{not, _||_}
 use lib.Dec.{T, leb, eqb, le→leb, eqb-refl}
 use mir.Facts.{T-not, or-yes, leb-yes, eqb-yes}
 use Rattle.codec.proofs.Tests.{cond-elim}
-use Rattle.codec.proofs.Below.{all-below-at, all-below}
-use Rattle.vector.specs.Vec.{Vec, width, atMost, atMostBut, largestOf, largest, withEntry, atLeast, larger, raised}
-
--- ---- tests of every entry
+use Rattle.codec.proofs.Below.{all-below-at, all-below, FirstNot, first-not}
+use Rattle.vector.specs.Vec.{Vec, width, atMost, atMostBut, firstShort, firstShortBut, largestOf, largest, withEntry, atLeast, larger, raised}
 
 -- ---- the order, entry by entry
 
@@ -39,6 +37,16 @@ pub at-most-but-le : (m : ℕ) (v w : Vec) → T (atMostBut m v w) → (i : ℕ)
 unfolding atMostBut
 at-most-but-le m v w t i l =
     ⊎-elim (λ e. inl (eqb-yes e)) (λ h. inr (leb-yes h)) (or-yes (eqb i m) (leb (v i) (w i)) (all-below-at width (λ i. eqb i m || leb (v i) (w i)) t i l))
+
+-- ---- the lowest site that is short
+
+pub first-short : (v w : Vec) → T (not (atMost v w)) → FirstNot width (λ i. leb (v i) (w i)) (firstShort v w)
+unfolding atMost firstShort
+first-short v w t = first-not width (λ i. leb (v i) (w i)) t
+
+pub first-short-but : (m : ℕ) (v w : Vec) → T (not (atMostBut m v w)) → FirstNot width (λ i. eqb i m || leb (v i) (w i)) (firstShortBut m v w)
+unfolding atMostBut firstShortBut
+first-short-but m v w t = first-not width (λ i. eqb i m || leb (v i) (w i)) t
 
 -- ---- the largest entry
 

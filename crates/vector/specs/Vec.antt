@@ -3,7 +3,7 @@
 use Prim.Native.Nat.{ℕ, zero, suc, max}
 use mathlib.Core.Bool.{Bool, cond, _||_}
 use lib.Dec.{leb, eqb}
-use Rattle.codec.specs.Below.{allBelow}
+use Rattle.codec.specs.Below.{allBelow, firstNot}
 
 -- R11
 abbrev pub width : ℕ
@@ -22,6 +22,14 @@ atMost v w = allBelow width (λ i. leb (v i) (w i))
 -- the same of every entry but that of site m
 unfoldable pub atMostBut : ℕ → Vec → Vec → Bool
 atMostBut m v w = allBelow width (λ i. eqb i m || leb (v i) (w i))
+
+-- the lowest site at which w is short of v, the width where there is none
+unfoldable pub firstShort : Vec → Vec → ℕ
+firstShort v w = firstNot width (λ i. leb (v i) (w i))
+
+-- the same of every site but m
+unfoldable pub firstShortBut : ℕ → Vec → Vec → ℕ
+firstShortBut m v w = firstNot width (λ i. eqb i m || leb (v i) (w i))
 
 -- the largest of the first n entries, and of all
 unfoldable pub largestOf : ℕ → Vec → ℕ

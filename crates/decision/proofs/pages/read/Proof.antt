@@ -4,6 +4,7 @@ use mathlib.Core.Bool.{true}
 use borrow.Author.Tests.{not-true, not-false}
 use borrow.Author.Needs.{needs}
 use Rattle.vector.specs.Meaning.{asVec}
+use Rattle.vector.proofs.Entries.{atMostBut-none, firstShortBut-none}
 use Rattle.protocol.specs.Record.{fitsPage}
 use Rattle.protocol.specs.Shelf.{found}
 use Rattle.protocol.specs.Event.{READ}
@@ -37,13 +38,20 @@ is-paged e = not-false _ (e .if2 .left)
 loaded : tie.After-page → tie.After-session
 loaded c = c .before .before .before .before .before .before .before .before .before .before
 
--- the test is the protocol's, of what the key's node has heard
+-- what the key's node has heard
+hears : (c : tie.After-heard) → let k = loaded (c .before .before) in
+    let a = k .before .before .args in
+    asVec (c .heard .result) ≡ heardBy (a .t .now) (k .session .result .site) (a .k)
+unfolding loaded
+hears c = c .heard .ensures ∙ rw (c .before .partition .ensures .0)
+
+-- the test is the protocol's
 ready : (c : tie.After-at-most) → let k = loaded (c .before .before .before) in
     let x = k .session .result in
     let a = k .before .before .args in
     c .at-most .result ≡ readReady (heardBy (a .t .now) (x .site) (a .k)) (asVec (x .snapshot))
 unfolding readReady loaded
-ready c = c .at-most .ensures ∙ rw (c .before .heard .ensures, c .before .before .partition .ensures .0)
+ready c = c .at-most .ensures ∙ rw (hears (c .before))
 
 -- and what is found the newest of its records that fit the page
 shows : (c : tie.After-newest) → let k = loaded (c .before .before .before .before .before) in
@@ -108,8 +116,8 @@ heard-requires c κs =
 at-most-requires : tie.Need-at-most-requires
 at-most-requires c κs = search needs
 
-refused-requires-4 : tie.Need-refused-requires-4
-refused-requires-4 c κs = search needs
+waits-to-hear-requires : tie.Need-waits-to-hear-requires
+waits-to-hear-requires c κs = atMostBut-none _ _ ∙ sym (c .before .at-most .ensures) ∙ not-true _ (c .if4 .taken)
 
 returns-4 : tie.Need-returns-4
 unfolding loaded
@@ -119,7 +127,8 @@ returns-4 c =
     let u = e3 .before in
     let e2 = u .before .before .before .before in
     let e = e2 .before .before in
-    c .refused4 .ensures ∙ sym (says (e .before .before) ∙ rw (is-open e, is-paged e2, sym (u .awaited .ensures), not-false (u .awaited .result) (e3 .if3 .left), sym (ready r), not-true (r .at-most .result) (c .before .if4 .taken)))
+    c .waits-to-hear .ensures
+    ∙ sym (says (e .before .before) ∙ rw (is-open e, is-paged e2, sym (u .awaited .ensures), not-false (u .awaited .result) (e3 .if3 .left), sym (ready r), not-true (r .at-most .result) (c .before .if4 .taken), sym (hears (r .before)), sym (firstShortBut-none (asVec (loaded (r .before .before .before) .session .result .snapshot)) (asVec (r .before .heard .result)))))
 
 newest-requires : tie.Need-newest-requires
 newest-requires c κs =
@@ -166,7 +175,7 @@ read-spec =
     partition-requires
     heard-requires
     at-most-requires
-    refused-requires-4
+    waits-to-hear-requires
     returns-4
     newest-requires
     shown-requires

@@ -34,13 +34,20 @@ is-open e = not-false _ (e .if1 .left)
 loaded : tie.After-vec → tie.After-session
 loaded c = c .before .before .before .before
 
--- the test is the protocol's, of what the key's node has heard
+-- what the key's node has heard
+hears : (c : tie.After-heard) → let k = loaded (c .before .before) in
+    let a = k .before .before .args in
+    asVec (c .heard .result) ≡ heardBy (a .t .now) (k .session .result .site) (a .k)
+unfolding loaded
+hears c = c .heard .ensures ∙ rw (c .before .partition .ensures .0)
+
+-- the test is the protocol's
 ready : (c : tie.After-at-most-but) → let k = loaded (c .before .before .before) in
     let x = k .session .result in
     let a = k .before .before .args in
     c .at-most-but .result ≡ getReady (x .site) (heardBy (a .t .now) (x .site) (a .k)) (asVec (x .vec))
 unfolding getReady loaded
-ready c = c .at-most-but .ensures ∙ rw (c .before .heard .ensures, c .before .before .partition .ensures .0)
+ready c = c .at-most-but .ensures ∙ rw (hears (c .before))
 
 -- and what is found the newest of its records
 shows : (c : tie.After-newest) → let k = loaded (c .before .before .before .before .before) in
@@ -85,15 +92,18 @@ cast-at-most-but c = search needs
 at-most-but-requires : tie.Need-at-most-but-requires
 at-most-but-requires c κs = search needs
 
-refused-requires-3 : tie.Need-refused-requires-3
-refused-requires-3 c κs = search needs
+cast-waits-to-hear : tie.Need-cast-waits-to-hear
+cast-waits-to-hear c = search needs
+
+waits-to-hear-requires : tie.Need-waits-to-hear-requires
+waits-to-hear-requires c κs = sym (c .before .at-most-but .ensures) ∙ not-true _ (c .if3 .taken)
 
 returns-3 : tie.Need-returns-3
 unfolding loaded
 returns-3 c =
     let u = c .before .before in
     let e2 = u .before .before .before .before in
-    c .refused3 .ensures ∙ sym (says (e2 .before .before .before) ∙ rw (is-open (e2 .before), e2 .if2 .left, sym (ready u), not-true (u .at-most-but .result) (c .before .if3 .taken)))
+    c .waits-to-hear .ensures ∙ sym (says (e2 .before .before .before) ∙ rw (is-open (e2 .before), e2 .if2 .left, sym (ready u), not-true (u .at-most-but .result) (c .before .if3 .taken), sym (hears (u .before))))
 
 newest-requires : tie.Need-newest-requires
 newest-requires c κs =
@@ -134,7 +144,8 @@ get-spec =
     heard-requires
     cast-at-most-but
     at-most-but-requires
-    refused-requires-3
+    cast-waits-to-hear
+    waits-to-hear-requires
     returns-3
     newest-requires
     shown-requires

@@ -7,12 +7,13 @@ use lib.Dec.{ltb}
 use mir.ValLaws.{toZ-ofZ}
 use mir.Syntax.{w32}
 use borrow.Author.Needs.{needs}
-use borrow.Author.Tests.{not-true, not-false}
+use borrow.Author.Tests.{not-true, not-false, lt-ltb, le-ltb}
 use Rattle.codec.specs.Le.{load}
 use Rattle.protocol.specs.Record.{partitionOf}
 use Rattle.protocol.specs.Event.{PUT}
-use Rattle.protocol.proofs.Ladders.{refuse, stampedBy, putAt}
-use Rattle.parts.specs.Node.{clockIn, heldIn}
+use Rattle.protocol.specs.Needs.{putReady}
+use Rattle.protocol.proofs.Ladders.{wait, stampedBy, putAt}
+use Rattle.parts.specs.Node.{heldIn}
 use Rattle.parts.specs.Meaning.{asSession}
 use Rattle.table.specs.Parts.{siteOf, nodeOf}
 use Rattle.table.specs.Decode.{settingIn, decode}
@@ -103,50 +104,53 @@ returns-4 c =
     let full = sym (r .has-room .ensures) ∙ not-true _ (c .before .if4 .taken) in
     c .refused4 .ensures ∙ sym (at-node (h .before) ∙ rw (slot, full))
 
-is-ready-requires : tie.Need-is-ready-requires
-is-ready-requires c κs =
+to-pass-requires : tie.Need-to-pass-requires
+to-pass-requires c κs =
     let p = c .before .before .before .before .before in
     (search needs, small (p .before), p .partition .ensures .1)
 
--- what is answered where there is room
-by-clock : (c : tie.After-is-ready) →
-    let p = c .before .before .before .before .before .before in
-    let x = p .before .before .before .before .session .result in
-    let a = p .before .before .before .before .before .before .args in
-    answered (decode (a .t .now)) (PUT (a .s) (a .key) (a .quality) (a .level))
-    ≡ cond (c .is-ready .result) (stampedBy (seenBy (a .t .now) (asSession x)) (a .s) (a .key) (a .quality) (a .level) (p .partition .result) (clockIn (nodeOf (siteOf (a .t .now) (x .site)) (p .partition .result)))) (refuse 3)
-unfolding roomy
-by-clock c =
-    let r = c .before .before .before in
-    let h = r .before .before in
-    let slot = sym (h .has-slot .ensures) ∙ not-false _ (r .before .if3 .left) in
-    let room = sym (r .has-room .ensures) ∙ not-false _ (c .before .before .if4 .left) in
-    at-node (h .before) ∙ rw (slot, room, c .is-ready .ensures)
-
-refused-requires-5 : tie.Need-refused-requires-5
-refused-requires-5 c κs = search needs
-
-returns-5 : tie.Need-returns-5
-returns-5 c = c .refused5 .ensures ∙ sym (by-clock (c .before .before) ∙ rw (not-true (c .before .before .is-ready .result) (c .before .if5 .taken)))
-
 node-requires : tie.Need-node-requires
 node-requires c κs =
-    let p = c .before .before .before .before .before .before .before in
+    let p = c .before .before .before .before .before .before in
     (search needs, small (p .before), p .partition .ensures .1)
 
 clock-requires : tie.Need-clock-requires
 clock-requires c κs = search needs
+
+-- what is answered where there is room: by the clock and the stamp that it must pass
+by-clock : (c : tie.After-clock) →
+    let g = c .before .before in
+    let p = g .before .before .before .before .before .before in
+    let x = p .before .before .before .before .session .result in
+    let a = p .before .before .before .before .before .before .args in
+    answered (decode (a .t .now)) (PUT (a .s) (a .key) (a .quality) (a .level))
+    ≡ cond (ltb (g .to-pass .result) (c .clock .result)) (stampedBy (seenBy (a .t .now) (asSession x)) (a .s) (a .key) (a .quality) (a .level) (p .partition .result) (c .clock .result)) (wait (x .site) (g .to-pass .result))
+unfolding roomy putReady
+by-clock c =
+    let g = c .before .before in
+    let r = g .before .before .before in
+    let h = r .before .before in
+    let slot = sym (h .has-slot .ensures) ∙ not-false _ (r .before .if3 .left) in
+    let room = sym (r .has-room .ensures) ∙ not-false _ (g .before .before .if4 .left) in
+    at-node (h .before) ∙ rw (slot, room, c .clock .ensures, c .before .node .ensures .0, g .to-pass .ensures)
+
+waits-requires : tie.Need-waits-requires
+waits-requires c κs = search needs
+
+returns-5 : tie.Need-returns-5
+returns-5 c =
+    let k = c .before .before in
+    c .waits .ensures ∙ sym (by-clock k ∙ rw (le-ltb (k .before .before .to-pass .result) (k .clock .result) (c .before .if5 .taken)))
 
 stored-requires : tie.Need-stored-requires
 stored-requires c κs = small (c .before .before .before .before .before .before .before .before .before .before)
 
 returns-6 : tie.Need-returns-6
 returns-6 c =
-    let r = c .before .before .before in
-    let k = c .before .clock .ensures in
-    let s = r .before .before .before .before .before .before .before .before .before .before .before .before .before in
-    c .stored .ensures
-    ∙ sym (by-clock (r .before) ∙ rw (not-false (r .before .is-ready .result) (r .if5 .left), k, c .before .before .node .ensures .0, toZ-ofZ w32 (s .args .level) (search needs)))
+    let k = c .before .before in
+    let g = k .before .before in
+    let s = g .before .before .before .before .before .before .before .before .before .before .before .before in
+    c .stored .ensures ∙ sym (by-clock k ∙ rw (lt-ltb (g .to-pass .result) (k .clock .result) (c .before .if5 .left), toZ-ofZ w32 (s .args .level) (search needs)))
 
 pub put-spec : {M : Type 1} → statement M
 put-spec =
@@ -164,10 +168,10 @@ put-spec =
     has-room-requires
     refused-requires-4
     returns-4
-    is-ready-requires
-    refused-requires-5
-    returns-5
+    to-pass-requires
     node-requires
     clock-requires
+    waits-requires
+    returns-5
     stored-requires
     returns-6)

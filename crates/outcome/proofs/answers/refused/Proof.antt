@@ -1,16 +1,15 @@
 -- `outcome::answers::refused` meets its contract.
-use mathlib.Core.Path.{refl}
 use Rattle.protocol.specs.Event.{plain}
 use Rattle.outcome.proofs.answers.refused.Statement.{statement}
 use Rattle.outcome.proofs.answers.refused.Tie as tie
 use borrow.Author.Needs.{needs}
 
-closed-requires : tie.Need-closed-requires
-closed-requires c κs = search needs
+turned-away-requires : tie.Need-turned-away-requires
+turned-away-requires c κs = search needs
 
 returns : tie.Need-returns
 unfolding plain
-returns c = refl
+returns c = c .turned-away .ensures
 
 pub refused-spec : {M : Type 1} → statement M
-refused-spec = tie.close (tie.spec closed-requires returns)
+refused-spec = tie.close (tie.spec turned-away-requires returns)

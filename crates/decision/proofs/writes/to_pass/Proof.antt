@@ -1,0 +1,21 @@
+-- `decision::writes::to_pass` meets its contract.
+use Rattle.protocol.specs.Needs.{toPass}
+use Rattle.decision.proofs.writes.to_pass.Statement.{statement}
+use Rattle.decision.proofs.writes.to_pass.Tie as tie
+use borrow.Author.Needs.{needs}
+
+largest-requires : tie.Need-largest-requires
+largest-requires c κs = search needs
+
+own-requires : tie.Need-own-requires
+own-requires c κs = search needs
+
+later-requires : tie.Need-later-requires
+later-requires c κs = search needs
+
+returns : tie.Need-returns
+unfolding toPass
+returns c = rw (c .later .ensures, c .before .own .ensures, c .before .before .largest .ensures)
+
+pub to-pass-spec : {M : Type 1} → statement M
+to-pass-spec = tie.close (tie.spec largest-requires own-requires later-requires returns)
