@@ -1,4 +1,4 @@
-//! The 17 events of vectors/base/document-01.events through the typed face give their 17 lines.
+//! The 17 events of vectors/01/document-01.events through the typed face give their 17 lines.
 
 use level_archive::{Answer, Archive, Event, Quality};
 

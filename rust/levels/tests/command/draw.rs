@@ -14,7 +14,7 @@ fn count(svg: &str, what: &str) -> usize {
 
 #[test]
 fn document_01_as_a_picture() {
-    let svg = levels(&["draw"], &read("vectors/base/document-01.events")).text();
+    let svg = levels(&["draw"], &read("vectors/01/document-01.events")).text();
     assert_eq!(well_formed(&svg), Ok(()));
     assert_eq!(count(&svg, "class=\"arrow\""), 2);
     assert_eq!(count(&svg, "class=\"arrow beat\""), 1);

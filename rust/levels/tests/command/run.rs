@@ -10,7 +10,7 @@ fn document_01_in_plain_words() {
     let expected = String::from_utf8(read("rust/levels/tests/document-01.run")).expect("text");
     let text = read("rust/levels/tests/document-01.txt");
     assert_eq!(levels(&["run"], &text).text(), expected);
-    let bytes = read("vectors/base/document-01.events");
+    let bytes = read("vectors/01/document-01.events");
     assert_eq!(levels(&["run"], &bytes).text(), expected);
     assert_eq!(levels(&["run", "--bytes"], &bytes).text(), expected);
 }
