@@ -116,9 +116,9 @@ static inline const char *level_archive_text(uint8_t number) {
  * ---- an answer; what its number does not fill is zero
  *
  * A GET or READ that waits: source is the lowest-numbered site that the node has not
- * heard far enough, stamp is the stamp up to which the node must have heard it. A PUT
- * that waits: source is the session's own site, stamp is the stamp that its node's
- * clock must pass (greater, not equal).
+ * heard far enough, stamp is the stamp up to which the node must have heard it; a GET
+ * never waits for its own site. A PUT that waits: source is the session's own site,
+ * stamp is the stamp that its node's clock must pass (greater, not equal).
  */
 
 typedef struct level_archive_answer {

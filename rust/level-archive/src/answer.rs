@@ -35,12 +35,12 @@ pub enum Answer {
     Value(Reading),
     /// 2: nothing is recorded of this key.
     Nothing,
-    /// 3: wait; nothing has changed, and the same event may be served later, but not
-    /// before the site and stamp are reached. [`Event::told`](crate::Event::told) says
-    /// it in words.
+    /// 3: wait; nothing has changed. The same event may be served later, but not while
+    /// the node lacks what is named here; [`Event::told`](crate::Event::told) says it in
+    /// words.
     Wait {
         /// Of a GET or READ, the lowest-numbered site that the node has not heard far
-        /// enough. Of a PUT, the session's own site.
+        /// enough; a GET never waits for its own. Of a PUT, the session's own site.
         site: u8,
         /// Of a GET or READ, the stamp up to which the node must have heard the site.
         /// Of a PUT, the stamp that its node's clock must pass: greater, not equal.
