@@ -5,7 +5,7 @@
 # Proves and builds the bench, and runs it on the 17 events of the example in docs/RULES.md: their lines go to standard output, all else to standard error.
 bench:
 	@scripts/brief check bench >&2
-	@target/bin/bench < vectors/base/document-01.events
+	@target/bin/bench < vectors/01/document-01.events
 
 # Proves the archive and writes target/staticlib/libarchive.a, which C programs and rust/level-archive link.
 library:

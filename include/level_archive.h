@@ -2,8 +2,8 @@
  * The level archive for C (C99) and C++ programs.
  *
  * In order: version, lengths and limits, the events' codes, the numbers given back,
- * an answer, the three proved functions, the functions that fill an event's 32
- * bytes (level_archive_event_open and so on), an answer out of
+ * an answer and its words, the three proved functions, the functions that fill an
+ * event's 32 bytes (level_archive_event_open and so on), an answer out of
  * `level_archive_run`'s bytes.
  *
  * Link target/staticlib/libarchive.a, which `make library` writes:
@@ -23,8 +23,8 @@ extern "C" {
 
 /* ---- the version of this header */
 
-#define LEVEL_ARCHIVE_VERSION "0.1.0"
-#define LEVEL_ARCHIVE_VERSION_NUMBER 100 /* 10,000 major + 100 minor + patch */
+#define LEVEL_ARCHIVE_VERSION "0.2.0"
+#define LEVEL_ARCHIVE_VERSION_NUMBER 200 /* 10,000 major + 100 minor + patch */
 
 /* ---- lengths and limits */
 
@@ -68,7 +68,7 @@ enum {
     LEVEL_ARCHIVE_DONE = 0,           /* done; of a PUT, source and stamp are filled */
     LEVEL_ARCHIVE_VALUE = 1,          /* a reading: source, quality, level and stamp are filled */
     LEVEL_ARCHIVE_NOTHING = 2,        /* nothing is recorded of this key */
-    LEVEL_ARCHIVE_WAIT = 3,           /* GET, PUT, READ: the same event may be served later */
+    LEVEL_ARCHIVE_WAIT = 3,           /* GET, PUT, READ: the same event may be served later; source and stamp say what it waits for */
     LEVEL_ARCHIVE_UNKNOWN_CODE = 10,  /* the event's code is not 1 to 10 */
     LEVEL_ARCHIVE_OUT_OF_RANGE = 11,  /* a used field out of range, or an unused one not zero; for setup, a number not 1 to 4 */
     LEVEL_ARCHIVE_NOT_OPEN = 12,      /* the session is not open */
@@ -86,7 +86,7 @@ enum {
     LEVEL_ARCHIVE_ILL_FORMED = 24     /* the table is not well formed */
 };
 
-/* The number in words. */
+/* The number in words. What a wait waits for, level_archive_wait_text says. */
 static inline const char *level_archive_text(uint8_t number) {
     switch (number) {
     case LEVEL_ARCHIVE_DONE: return "done";
@@ -112,15 +112,57 @@ static inline const char *level_archive_text(uint8_t number) {
     }
 }
 
-/* ---- an answer; what its number does not fill is zero */
+/*
+ * ---- an answer; what its number does not fill is zero
+ *
+ * A GET or READ that waits: source is the lowest-numbered site that the node has not
+ * heard far enough, stamp is the stamp up to which the node must have heard it; a GET
+ * never waits for its own site. A PUT that waits: source is the session's own site,
+ * stamp is the stamp that its node's clock must pass (greater, not equal).
+ */
 
 typedef struct level_archive_answer {
     uint8_t number;  /* see above */
-    uint8_t source;  /* the site at which it was written */
+    uint8_t source;  /* the site at which it was written; of a wait, the site that is waited for */
     uint8_t quality; /* 0 measured, 1 corrected, 2 estimated */
     int32_t level;   /* mm from datum */
-    uint64_t stamp;  /* its stamp at the source */
+    uint64_t stamp;  /* its stamp at the source; of a wait, the stamp needed */
 } level_archive_answer;
+
+/* Writes a text at a place, without its final zero, and gives the place behind it. */
+static inline char *level_archive_write_text(char *at, const char *text) {
+    while (*text != 0) *at++ = *text++;
+    return at;
+}
+
+/* Writes a number, 1 to 20 digits, and gives the place behind it. */
+static inline char *level_archive_write_number(char *at, uint64_t number) {
+    uint64_t unit = 1;
+    while (number / unit >= 10) unit *= 10;
+    for (; unit > 0; unit /= 10) *at++ = (char)('0' + number / unit % 10);
+    return at;
+}
+
+#define LEVEL_ARCHIVE_WAIT_TEXT_BYTES 80 /* has room for every text of this header, with its final zero */
+
+/*
+ * Writes what an answer tells its event: of a GET or READ that waits "waits for site 0
+ * up to 101", of a PUT that waits "waits until the clock of site 0 has passed 100", and
+ * for every other answer the text of its number.
+ */
+static inline void level_archive_wait_text(char text[LEVEL_ARCHIVE_WAIT_TEXT_BYTES],
+                                           const uint8_t event[LEVEL_ARCHIVE_EVENT_BYTES], level_archive_answer answer) {
+    const int put = event[0] == LEVEL_ARCHIVE_EVENT_PUT;
+    if (answer.number == LEVEL_ARCHIVE_WAIT) {
+        text = level_archive_write_text(text, put ? "waits until the clock of site " : "waits for site ");
+        text = level_archive_write_number(text, answer.source);
+        text = level_archive_write_text(text, put ? " has passed " : " up to ");
+        text = level_archive_write_number(text, answer.stamp);
+    } else {
+        text = level_archive_write_text(text, level_archive_text(answer.number));
+    }
+    *text = 0;
+}
 
 /*
  * ---- the three proved functions

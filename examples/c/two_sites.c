@@ -13,23 +13,22 @@
 
 static uint8_t table[LEVEL_ARCHIVE_TABLE_BYTES];
 
-static void print(const char *what, level_archive_answer answer) {
-    printf("%-30s ", what);
-    if (answer.number == LEVEL_ARCHIVE_VALUE)
-        printf("%" PRId32 " mm, site %d at %" PRIu64 "\n", answer.level, answer.source, answer.stamp);
-    else
-        printf("%s\n", level_archive_text(answer.number));
-}
-
 static void step(const char *what, const uint8_t event[LEVEL_ARCHIVE_EVENT_BYTES]) {
-    print(what, level_archive_step(table, sizeof table, event, LEVEL_ARCHIVE_EVENT_BYTES));
+    const level_archive_answer answer = level_archive_step(table, sizeof table, event, LEVEL_ARCHIVE_EVENT_BYTES);
+    char text[LEVEL_ARCHIVE_WAIT_TEXT_BYTES];
+    level_archive_wait_text(text, event, answer); /* names the site and the stamp that an event waits for */
+    if (answer.number == LEVEL_ARCHIVE_VALUE)
+        printf("%-30s %" PRId32 " mm, site %d at %" PRIu64 "\n", what, answer.level, answer.source, answer.stamp);
+    else
+        printf("%-30s %s\n", what, text);
 }
 
 int main(void) {
     enum { DESK = 0, OFFICE = 1, GAUGE = 7 }; /* two sessions and a key */
+    const level_archive_answer made = level_archive_setup(table, sizeof table, 2, 1);
     uint8_t event[LEVEL_ARCHIVE_EVENT_BYTES];
 
-    print("set up 2 sites, 1 partition", level_archive_setup(table, sizeof table, 2, 1));
+    printf("%-30s %s\n", "set up 2 sites, 1 partition", level_archive_text(made.number));
     level_archive_event_open(event, DESK, 0);
     step("the desk opens at site 0", event);
     level_archive_event_open(event, OFFICE, 1);

@@ -1,5 +1,6 @@
-//! Counts which answers came to which codes.
+//! Counts which answers came to which codes, and for which sites events waited.
 
+use plain::limits::SITES;
 use plain::{Answer, code};
 
 /// For each code, the answers that it can get when the table is well formed and
@@ -17,15 +18,16 @@ pub const CAN_GET: [(u8, &[u8]); 10] = [
     (code::DELIVER, &[0, 20, 22]),
 ];
 
-/// How often each number came to each code.
+/// How often each number came to each code, and of the waits each site.
 #[derive(Clone, Debug)]
 pub struct Tally {
     counts: Vec<[u64; 256]>,
+    waits: Vec<[u64; SITES]>,
 }
 
 impl Default for Tally {
     fn default() -> Tally {
-        Tally { counts: vec![[0; 256]; 256] }
+        Tally { counts: vec![[0; 256]; 256], waits: vec![[0; SITES]; 256] }
     }
 }
 
@@ -34,6 +36,9 @@ impl Tally {
     pub fn add(&mut self, event: &[u8], answer: &Answer) {
         let code = event.first().copied().unwrap_or(0);
         self.counts[code as usize][answer.number as usize] += 1;
+        if answer.number == 3 {
+            self.waits[code as usize][answer.source as usize] += 1;
+        }
     }
 
     /// How many events there were.
@@ -49,6 +54,11 @@ impl Tally {
     /// How often a number came to a code.
     pub fn of(&self, code: u8, number: u8) -> u64 {
         self.counts[code as usize][number as usize]
+    }
+
+    /// How often events of a code waited for each site.
+    pub fn waits(&self, code: u8) -> [u64; SITES] {
+        self.waits[code as usize]
     }
 
     /// The answers of [`CAN_GET`], with 11, that came fewer times than `least`.

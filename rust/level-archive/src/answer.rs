@@ -35,8 +35,17 @@ pub enum Answer {
     Value(Reading),
     /// 2: nothing is recorded of this key.
     Nothing,
-    /// 3: wait; nothing has changed, and the same event may be served later.
-    Wait,
+    /// 3: wait; nothing has changed. The same event may be served later, but not while
+    /// the node lacks what is named here; [`Event::told`](crate::Event::told) says it in
+    /// words.
+    Wait {
+        /// Of a GET or READ, the lowest-numbered site that the node has not heard far
+        /// enough; a GET never waits for its own. Of a PUT, the session's own site.
+        site: u8,
+        /// Of a GET or READ, the stamp up to which the node must have heard the site.
+        /// Of a PUT, the stamp that its node's clock must pass: greater, not equal.
+        stamp: u64,
+    },
     /// 10 to 24: refused; nothing has changed.
     Refused(Refusal),
 }
@@ -62,13 +71,14 @@ pub struct Reading {
 pub struct Values {
     /// 0 done, 1 value, 2 nothing recorded, 3 wait, 10 to 24 refused.
     pub number: u8,
-    /// The source site.
+    /// The source site; of a wait, the site that it waits for.
     pub source: u8,
     /// The quality.
     pub quality: u8,
     /// The level in mm from datum.
     pub level: i32,
-    /// The stamp.
+    /// The stamp; of a wait, the stamp up to which the site must have been heard or,
+    /// of a PUT, which the clock must pass.
     pub stamp: u64,
 }
 
@@ -106,7 +116,7 @@ impl Answer {
                 Values { number: 1, source, quality: quality.number(), level, stamp }
             }
             Answer::Nothing => only(2),
-            Answer::Wait => only(3),
+            Answer::Wait { site, stamp } => Values { source: site, stamp, ..only(3) },
             Answer::Refused(refusal) => only(refusal.number()),
         }
     }
@@ -142,7 +152,7 @@ impl TryFrom<Values> for Answer {
                 Answer::Value(Reading { source, quality, level, stamp })
             }
             2 => Answer::Nothing,
-            3 => Answer::Wait,
+            3 => Answer::Wait { site: source, stamp },
             _ => Answer::Refused(Refusal::try_from(number).map_err(|_| AnswerError)?),
         };
         if answer.values() == values { Ok(answer) } else { Err(AnswerError) }
@@ -184,7 +194,9 @@ impl fmt::Display for Answer {
             Answer::Written { source, stamp } => write!(f, "written, site {source} at {stamp}"),
             Answer::Value(reading) => reading.fmt(f),
             Answer::Nothing => f.pad("nothing recorded"),
-            Answer::Wait => f.pad("wait, then try again"),
+            Answer::Wait { site, stamp } => {
+                write!(f, "wait for site {site} (stamp {stamp}), then try again")
+            }
             Answer::Refused(refusal) => write!(f, "refused ({}): {refusal}", refusal.number()),
         }
     }

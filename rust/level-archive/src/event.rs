@@ -1,4 +1,5 @@
-//! Events, typed. `event_bytes` has their bytes, `event_text` their text.
+//! Events, typed. `event_bytes` has their bytes, `event_text` their text, `told` what an
+//! answer tells them.
 
 use crate::page_keys::{PageKeys, TooManyKeys};
 use crate::quality::Quality;

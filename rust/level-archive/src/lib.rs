@@ -5,7 +5,7 @@
 //!
 //! * [`Archive`] is the archive over its 57,344 bytes, its own or lent.
 //! * [`Event`] is what happens, typed, as text or as bytes; [`Answer`] is what the
-//!   archive says to it, a [`Refusal`] among them.
+//!   archive says to it, a [`Refusal`] among them. [`Event::told`] puts the two into words.
 //! * [`View`] shows what a table holds.
 //! * [`limits`] has the numbers that bound them, [`sys`] the three proved functions as they are.
 //!
@@ -53,6 +53,7 @@ mod quality;
 mod refusal;
 #[allow(unsafe_code)] // the calls to the proved functions, and nothing else
 pub mod sys;
+mod told;
 mod view;
 mod words;
 

@@ -5,13 +5,13 @@
 //! * [`input`]: events one by one from a file or standard input, text or bytes, with
 //!   line and column for what is wrong;
 //! * [`story`]: each event stepped through the archive, with what the tables before
-//!   and after it say about it: who waits for whom, what was sent, what arrived;
+//!   and after it say about it: at which node it is, what was sent, what arrived;
 //! * [`words`]: a happening as a sentence;
 //! * [`draw`]: all happenings as a space-time picture;
 //! * [`command`]: the command line, its help, output and exit codes.
 //!
 //! Nothing that the archive decides is decided here: every answer is the proved
-//! core's, and a wait's cause is read from the table that it left unchanged.
+//! core's, and what an event waits for is told by the answer.
 
 pub mod command;
 pub mod draw;

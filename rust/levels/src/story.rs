@@ -44,15 +44,6 @@ pub struct Node {
 pub enum Detail {
     /// Nothing.
     None,
-    /// Of a GET or READ that waits: what the node has not heard yet.
-    Unheard(Vec<Unheard>),
-    /// Of a PUT that waits: the node's clock, and what it must pass.
-    ClockTooEarly {
-        /// The clock.
-        clock: u64,
-        /// The largest entry of the session's vector, or the node's own.
-        pass: u64,
-    },
     /// Of a PUT or BEAT: an update or heartbeat went to these sites.
     Sent {
         /// Its stamp.
@@ -81,17 +72,6 @@ pub enum Detail {
     UnreadKeys(Vec<u8>),
     /// Of a PUT or BEAT that was refused: the sites to which the channel is full.
     FullTo(Vec<u8>),
-}
-
-/// A site that a node has not heard far enough.
-#[derive(Clone, Copy, Debug, PartialEq, Eq)]
-pub struct Unheard {
-    /// The site.
-    pub site: u8,
-    /// Up to where it has been heard.
-    pub heard: u64,
-    /// Up to where the session or its page needs it.
-    pub needed: u64,
 }
 
 impl Story {

@@ -7,13 +7,16 @@ use crate::record::Record;
 pub struct Answer {
     /// 0 done, 1 value, 2 nothing recorded, 3 wait, 10 and above refused.
     pub number: u8,
-    /// The source site of a value, or of a PUT that was done.
+    /// The source site of a value, or of a PUT that was done; the site that a
+    /// wait waits for.
     pub source: u8,
     /// The quality of a value.
     pub quality: u8,
     /// The level of a value, in mm from datum.
     pub level: i32,
-    /// The stamp of a value, or of a PUT that was done.
+    /// The stamp of a value, or of a PUT that was done; of a wait, the stamp
+    /// needed: up to which a GET or READ has to have heard the site, or which
+    /// the clock of a PUT must pass.
     pub stamp: u64,
 }
 
@@ -33,6 +36,12 @@ impl Answer {
     #[inline]
     pub const fn put(source: u8, stamp: u64) -> Answer {
         Answer { number: 0, source, quality: 0, level: 0, stamp }
+    }
+
+    /// A wait for a site and a stamp.
+    #[inline]
+    pub const fn wait((site, stamp): (usize, u64)) -> Answer {
+        Answer { number: 3, source: site as u8, quality: 0, level: 0, stamp }
     }
 
     /// The value of a shown record.

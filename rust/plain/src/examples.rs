@@ -1,4 +1,4 @@
-//! The examples P1 to P11 of docs/RULES.md.
+//! The examples P1 to P11 of docs/RULES.md, and what a wait says.
 
 use crate::make;
 use crate::session::{Page, Session, raise_by};
@@ -30,9 +30,19 @@ fn p1_p2_newer() {
 
 #[test]
 fn p3_get_waits_for_others() {
-    let get = |site| at(site, [5, 0, 7, 0], [4, 0, 8, 0]).step(&make::get(0, 0)).number;
-    assert_eq!(get(2), 2);
-    assert_eq!(get(0), 3);
+    let get = |site| at(site, [5, 0, 7, 0], [4, 0, 8, 0]).step(&make::get(0, 0));
+    assert_eq!(get(2), Answer::NOTHING);
+    assert_eq!(get(0), Answer::wait((2, 8)));
+}
+
+#[test]
+fn get_names_the_first_other_site_that_is_short() {
+    let get = |site, node| at(site, node, [6, 7, 8, 9]).step(&make::get(0, 0));
+    assert_eq!(get(0, [0, 6, 7, 8]), Answer::wait((1, 7)));
+    assert_eq!(get(1, [0, 6, 7, 8]), Answer::wait((0, 6)));
+    assert_eq!(get(3, [9, 9, 7, 0]), Answer::wait((2, 8)));
+    assert_eq!(get(0, [0, 7, 8, 0]), Answer::wait((3, 9)));
+    assert_eq!(get(2, [6, 7, 0, 9]), Answer::NOTHING);
 }
 
 #[test]
@@ -40,7 +50,22 @@ fn p4_read_waits_for_all() {
     for site in 0..4 {
         let mut archive = at(site, [5, 0, 7, 0], ZERO);
         archive.sessions[0].page = Some(Page::new([4, 0, 8, 0], 1));
-        assert_eq!(archive.step(&make::read(0, 0)).number, 3);
+        assert_eq!(archive.step(&make::read(0, 0)), Answer::wait((2, 8)));
+    }
+}
+
+#[test]
+fn read_names_the_first_site_that_is_short() {
+    let read = |site, node| {
+        let mut archive = at(site, node, [90, 90, 90, 90]);
+        archive.sessions[0].page = Some(Page::new([6, 7, 8, 9], 1));
+        archive.step(&make::read(0, 0))
+    };
+    for site in 0..4 {
+        assert_eq!(read(site, [5, 6, 7, 8]), Answer::wait((0, 6)));
+        assert_eq!(read(site, [6, 0, 8, 0]), Answer::wait((1, 7)));
+        assert_eq!(read(site, [6, 7, 8, 8]), Answer::wait((3, 9)));
+        assert_eq!(read(site, [6, 7, 8, 9]), Answer::NOTHING);
     }
 }
 
@@ -51,9 +76,23 @@ fn p5_p6_put_waits_for_the_clock() {
         archive.nodes[0][0].clock = clock;
         archive.step(&make::put(0, 0, 0, 7))
     };
-    assert_eq!(put(100, 90, [0, 100, 0, 0]), Answer::only(3));
+    assert_eq!(put(100, 90, [0, 100, 0, 0]), Answer::wait((0, 100)));
     assert_eq!(put(101, 90, [0, 100, 0, 0]), Answer::put(0, 101));
-    assert_eq!(put(101, 101, ZERO), Answer::only(3));
+    assert_eq!(put(101, 101, ZERO), Answer::wait((0, 101)));
+}
+
+#[test]
+fn put_names_its_site_and_the_stamp_to_pass() {
+    let put = |site, own, vector| {
+        let mut node = ZERO;
+        node[site] = own;
+        at(site, node, vector).step(&make::put(0, 0, 0, 7))
+    };
+    for site in 0..4 {
+        assert_eq!(put(site, 90, [80, 100, 70, 60]), Answer::wait((site, 100)));
+        assert_eq!(put(site, 110, [80, 100, 70, 60]), Answer::wait((site, 110)));
+        assert_eq!(put(site, 0, ZERO), Answer::wait((site, 0)));
+    }
 }
 
 #[test]

@@ -1,17 +1,26 @@
 //! The protocol's ten steps. Each begins with its table of refusals, in the
-//! order of R60, the wait last; after it nothing fails.
+//! order of R60; the wait is last and says what it waits for. After the table
+//! nothing fails.
 
 use crate::answer::Answer;
 use crate::archive::Archive;
 use crate::event::Event;
 use crate::record::{Message, Record};
 use crate::session::{Page, Session, raise_by};
-use crate::vector::{covers, covers_besides, greatest, raise, raise_entry};
+use crate::vector::{
+    covers, covers_besides, first_short, first_short_besides, greatest, raise, raise_entry,
+};
 
-/// Gives the first number whose case applies.
+/// Gives the first number whose case applies. What a wait waits for is looked
+/// for only once it is known that the event waits.
 macro_rules! refuse {
-    ($($number:literal when $case:expr;)*) => {
-        $(if $case { return Answer::only($number); })*
+    () => {};
+    (3 when $case:expr, for $site_and_stamp:expr;) => {
+        if $case { return Answer::wait($site_and_stamp); }
+    };
+    ($number:literal when $case:expr; $($rest:tt)*) => {
+        if $case { return Answer::only($number); }
+        refuse! { $($rest)* }
     };
 }
 
@@ -54,7 +63,8 @@ impl Archive {
         refuse! {
             12 when !session.open;
             14 when session.page.is_some();
-            3 when !covers_besides(session.site, &node.vector, &session.vector);
+            3 when !covers_besides(session.site, &node.vector, &session.vector),
+                for first_short_besides(session.site, &node.vector, &session.vector);
         }
         let Some(record) = node.newest(event.key) else {
             return Answer::NOTHING;
@@ -71,12 +81,13 @@ impl Archive {
         let node = &mut self.nodes[site][partition];
         let channels = &mut self.channels[site][partition];
         let stamp = node.clock;
+        let latest = greatest(&session.vector).max(node.vector[site]);
         refuse! {
             12 when !session.open;
             14 when session.page.is_some();
             22 when node.is_full();
             21 when channels.iter().any(|channel| channel.is_full());
-            3 when stamp <= greatest(&session.vector) || stamp <= node.vector[site];
+            3 when stamp <= latest, for (site, latest);
         }
         let record = Record {
             key: event.key,
@@ -122,7 +133,8 @@ impl Archive {
         };
         refuse! {
             16 when !page.awaits(event.key);
-            3 when !covers(&node.vector, &page.vector);
+            3 when !covers(&node.vector, &page.vector),
+                for first_short(&node.vector, &page.vector);
         }
         page.unread &= !(1 << event.key);
         let Some(record) = node.newest_for_page(event.key, &page.vector) else {

@@ -34,6 +34,28 @@ pub fn covers_besides(site: usize, vector: &Vector, other: &Vector) -> bool {
     (0..SITES).all(|at| at == site || vector[at] >= other[at])
 }
 
+/// The lowest-numbered site whose entry of `vector` is below that of `other`,
+/// and the entry of `other`. Only for a vector that doesn't cover the other.
+pub fn first_short(vector: &Vector, other: &Vector) -> (usize, u64) {
+    first_short_of(0..SITES, vector, other)
+}
+
+/// The same of the sites other than `site`.
+pub fn first_short_besides(site: usize, vector: &Vector, other: &Vector) -> (usize, u64) {
+    first_short_of((0..SITES).filter(|at| *at != site), vector, other)
+}
+
+/// The same of some sites in rising order.
+#[inline]
+fn first_short_of(
+    mut sites: impl Iterator<Item = usize>,
+    vector: &Vector,
+    other: &Vector,
+) -> (usize, u64) {
+    let site = sites.find(|at| vector[*at] < other[*at]).expect("an entry is too small");
+    (site, other[site])
+}
+
 /// The greatest entry.
 #[inline]
 pub fn greatest(vector: &Vector) -> u64 {

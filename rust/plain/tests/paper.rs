@@ -1,4 +1,4 @@
-//! The lines of vectors/base/document-01.out, and the numbers given back in the
+//! The lines of vectors/01/document-01.out, and the numbers given back in the
 //! order of its table.
 
 use plain::make;
@@ -10,14 +10,14 @@ const LINES: &str = "\
 3 3 0 0 0 0 0
 4 5 0 0 0 0 100
 5 3 0 0 0 0 0
-6 5 3 0 0 0 0
+6 5 3 0 0 0 100
 7 3 0 0 0 0 0
 8 5 0 0 0 0 101
 9 10 0 0 0 0 0
 10 4 1 0 1 -30 101
-11 4 3 0 0 0 0
+11 4 3 0 0 0 101
 12 10 0 0 0 0 0
-13 4 3 0 0 0 0
+13 4 3 0 0 0 101
 14 3 0 0 0 0 0
 15 9 0 0 0 0 0
 16 10 0 0 0 0 0

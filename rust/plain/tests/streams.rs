@@ -1,5 +1,6 @@
 //! Generated lists of events: the archive keeps causality, every number
-//! occurs, refusals and waits change nothing, updates are conserved.
+//! occurs, refusals and waits change nothing, a wait names what it waits for,
+//! updates are conserved.
 //!
 //! PLAIN_SEED sets the first seed and PLAIN_RUNS the number of lists.
 
@@ -8,7 +9,8 @@ use std::env;
 use plain::causal::Observer;
 use plain::random::Random;
 use plain::stream::{Stream, Style};
-use plain::{Answer, Archive, code};
+use plain::vector::greatest;
+use plain::{Answer, Archive, Session, code};
 
 /// A number from the environment, printed with its name.
 fn setting(name: &str, usual: u64) -> u64 {
@@ -81,10 +83,94 @@ fn refusals_and_waits_change_nothing() {
             let answer = archive.step(event);
             if answer.number >= 3 {
                 assert!(archive == before, "seed {seed}");
+                assert_eq!((answer.quality, answer.level), (0, 0));
+            }
+            if answer.number > 3 {
                 assert_eq!(answer, Answer::only(answer.number));
             }
         }
     }
+}
+
+/// An event that waited, its answer, and its session as it was.
+struct Waiting {
+    event: Vec<u8>,
+    answer: Answer,
+    session: Session,
+}
+
+impl Waiting {
+    /// Whether it still lacks what its answer names: the node has not heard the
+    /// site up to the stamp or, for a PUT, its clock has not passed the stamp.
+    fn lacks_what_it_names(&self, archive: &Archive) -> bool {
+        let node = archive.node(self.session.site, archive.partition_of(self.event[4]));
+        match self.event[0] {
+            code::PUT => node.clock <= self.answer.stamp,
+            _ => node.vector[self.answer.source as usize] < self.answer.stamp,
+        }
+    }
+
+    /// What it lacks in an archive, as sites with the stamps needed, the lowest
+    /// site first.
+    fn lacks(&self, archive: &Archive) -> Vec<(usize, u64)> {
+        let Session { site, vector, page, .. } = self.session;
+        let node = archive.node(site, archive.partition_of(self.event[4]));
+        let (wanted, own) = match self.event[0] {
+            code::PUT => return vec![(site, greatest(&vector).max(node.vector[site]))],
+            code::GET => (vector, false),
+            _ => (page.expect("a READ waits on a page").vector, true),
+        };
+        let is_short = |at: &usize| node.vector[*at] < wanted[*at] && (own || *at != site);
+        (0..archive.sites()).filter(is_short).map(|at| (at, wanted[at])).collect()
+    }
+
+    /// The same event still waits, and names the same. Of a PUT, 21 or 22 may
+    /// take the place of the wait.
+    fn waits_again(&self, archive: &mut Archive) {
+        let again = archive.step(&self.event);
+        let refused = self.event[0] == code::PUT && matches!(again.number, 21 | 22);
+        assert!(again == self.answer || refused, "{:?}: {again:?}", self.answer);
+    }
+}
+
+#[test]
+fn the_named_station_is_never_rung_in_vain() {
+    // By code, and those that lack several sites; READs that name their own site.
+    let (mut waits, mut several, mut own, mut tries) = ([0; 11], [0; 11], 0, 0);
+    for seed in 0..150 {
+        let (mut archive, mut stream) = start(seed, 1500);
+        let mut watched: Vec<Waiting> = Vec::new();
+        for _ in 0..1500 {
+            let event = stream.next_event().to_vec();
+            let answer = archive.step(&event);
+            if answer.number == 3 {
+                let session = *archive.session(event[3].into());
+                let waiting = Waiting { event, answer, session };
+                let lacks = waiting.lacks(&archive);
+                assert_eq!((answer.source as usize, answer.stamp), lacks[0], "seed {seed}");
+                let code = waiting.event[0];
+                waits[code as usize] += 1;
+                several[code as usize] += usize::from(lacks.len() > 1);
+                own += usize::from(code == code::READ && lacks[0].0 == session.site);
+                watched.push(waiting);
+            }
+            watched.retain(|waiting| {
+                waiting.session == *archive.session(waiting.event[3].into())
+                    && waiting.lacks_what_it_names(&archive)
+            });
+            let mut beside = archive.clone();
+            watched.iter().for_each(|waiting| waiting.waits_again(&mut beside));
+            assert!(beside == archive, "seed {seed}");
+            tries += watched.len();
+        }
+    }
+    for (name, code) in [("GET", code::GET), ("PUT", code::PUT), ("READ", code::READ)] {
+        let (waits, several) = (waits[code as usize], several[code as usize]);
+        println!("{name}: {waits} waits, {several} of them for several sites");
+        assert!(waits > 1000 && (several > 100 || code == code::PUT));
+    }
+    println!("{own} READs for their own site; {tries} tries again");
+    assert!(own > 1000 && tries > 200_000);
 }
 
 /// The updates waiting in a channel.

@@ -1,4 +1,4 @@
-//! Every event file of vectors/base gives exactly its .out file: through the
+//! Every event file of vectors/01 gives exactly its .out file: through the
 //! library, read whole and in odd pieces, and through the bench program.
 
 use std::fs::{self, File};
@@ -10,7 +10,7 @@ use plain::random::Random;
 
 /// The event files, each with its output.
 fn vectors() -> Vec<(PathBuf, Vec<u8>)> {
-    let folder = Path::new(env!("CARGO_MANIFEST_DIR")).join("../../vectors/base");
+    let folder = Path::new(env!("CARGO_MANIFEST_DIR")).join("../../vectors/01");
     let files = fs::read_dir(folder).expect("the vectors are there");
     let paths = files.map(|file| file.expect("a file").path());
     let events = paths.filter(|path| path.extension().is_some_and(|end| end == "events"));

@@ -16,6 +16,8 @@ enum Fault {
     None,
     /// A bit of an answer that shows a reading.
     Shown(usize),
+    /// A bit of a wait.
+    Wait(usize),
     /// A wait told as nothing recorded.
     WaitAsNothing,
     /// A bit of the table.
@@ -42,6 +44,7 @@ impl Faulty {
         match self.fault {
             _ if self.left > 0 => (),
             Fault::Shown(at) if told[0] == 1 => told[at] ^= 1,
+            Fault::Wait(at) if told[0] == 3 => told[at] ^= 1,
             Fault::WaitAsNothing if told[0] == 3 => told[0] = 2,
             Fault::Table(at) => {
                 let mut bytes = self.core.as_bytes().to_vec();
@@ -103,6 +106,8 @@ fn every_fault_is_caught() {
     let mut faults = vec![Fault::WaitAsNothing, Fault::OneMore];
     // Number, source, quality, level and stamp.
     faults.extend([0, 1, 2, 4, 8].map(Fault::Shown));
+    // The site that is waited for and the stamp needed, and what stays zero.
+    faults.extend([1, 8, 2, 4].map(Fault::Wait));
     // Clock, entry, and of the first record quality, level, stamp and entry.
     faults.extend([0, 8, 66, 68, 72, 80].map(|at| Fault::Table(node.start + at)));
     // A channel's front and its number of messages.

@@ -83,6 +83,11 @@ fn much_happened(tally: &Tally, chains: u64) {
     for number in [10, 23] {
         assert!(tally.of_number(number) >= 1000, "too few of {number}");
     }
+    for (name, code) in [("GET", code::GET), ("PUT", code::PUT), ("READ", code::READ)] {
+        let waits = tally.waits(code);
+        println!("{name} waited for sites 0 to 3: {waits:?}");
+        assert!(waits.iter().all(|number| *number >= 100), "{name} hardly waited for a site");
+    }
     share(tally, "served GETs", tally.of(code::GET, 1), 40);
     share(tally, "PUTs done", tally.of(code::PUT, 0), 12);
     share(tally, "page READs that showed a reading", tally.of(code::READ, 1), 30);

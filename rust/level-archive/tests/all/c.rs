@@ -15,7 +15,7 @@ const TWO_SITES: &str = "\
 set up 2 sites, 1 partition    done
 the desk opens at site 0       done
 the office opens at site 1     done
-the desk writes too early      wait, then try again
+the desk writes too early      waits until the clock of site 0 has passed 0
 the clock of site 0 moves      done
 the desk writes                done
 the desk reads                 1250 mm, site 0 at 100
@@ -91,17 +91,33 @@ fn limits() -> String {
     format!("{counts} {LAST_TIME} {LOWEST_LEVEL} {HIGHEST_LEVEL}\n")
 }
 
-/// A line for each number 0 to 255.
-fn texts() -> String {
-    let text = |number: u8| match (number, Refusal::try_from(number)) {
+/// A number in words.
+fn text(number: u8) -> String {
+    match (number, Refusal::try_from(number)) {
         (_, Ok(refusal)) => refusal.to_string(),
         (0, _) => Answer::Done.to_string(),
         (1, _) => String::from("a reading"),
         (2, _) => Answer::Nothing.to_string(),
-        (3, _) => Answer::Wait.to_string(),
+        (3, _) => String::from("wait, then try again"),
         _ => String::from("no number of the archive"),
-    };
+    }
+}
+
+/// A line for each number 0 to 255.
+fn texts() -> String {
     (0..=255).map(|number| format!("{number} {}\n", text(number))).collect()
+}
+
+/// What answers tell a GET, a READ and a PUT: a line for each number but 3, then for
+/// each of header.c's waits.
+fn answer_texts() -> String {
+    let waits = [(0, 0), (1, 9), (2, 10), (3, 101), (99, 999), (255, u64::MAX)];
+    let events = [Event::get(0, 0), Event::read(0, 0), Event::put(0, 0, Quality::Measured, 0)];
+    let lines = events.into_iter().flat_map(|event| {
+        let told = waits.map(|(site, stamp)| event.told(Answer::Wait { site, stamp }).to_string());
+        (0..=255).filter(|number| *number != 3).map(text).chain(told)
+    });
+    lines.map(|line| line + "\n").collect()
 }
 
 /// A line of bytes for each of the events that header.c writes.
@@ -127,7 +143,8 @@ fn events() -> String {
 fn the_header_says_what_rust_says() {
     let sizes = "16 4 8 57344 32 16\n";
     let answer = "1 3 2 -50000 281474976710655\n";
-    let expected = version() + &texts() + &events() + sizes + &limits() + answer;
+    let texts = texts() + &answer_texts();
+    let expected = version() + &texts + &events() + sizes + &limits() + answer;
     assert_eq!(printed(&C99, &test_source("header.c"), "header"), expected);
     if has_cpp() {
         assert_eq!(printed(&CPP, &test_source("header.c"), "header-cpp"), expected);

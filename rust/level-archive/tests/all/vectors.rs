@@ -1,4 +1,4 @@
-//! Every event file of vectors/base gives exactly its .out file: all at once, with
+//! Every event file of vectors/01 gives exactly its .out file: all at once, with
 //! little room for answers, and one by one; and the tables agree.
 
 use std::fs;
@@ -8,7 +8,7 @@ use level_archive::{ANSWER_BYTES, Answer, Archive, EVENT_BYTES};
 
 /// The event files, each with its output.
 fn vectors() -> Vec<(PathBuf, Vec<u8>, String)> {
-    let folder = Path::new(env!("CARGO_MANIFEST_DIR")).join("../../vectors/base");
+    let folder = Path::new(env!("CARGO_MANIFEST_DIR")).join("../../vectors/01");
     let files = fs::read_dir(folder).expect("the vectors are there");
     let paths = files.map(|file| file.expect("a file").path());
     let events = paths.filter(|path| path.extension().is_some_and(|end| end == "events"));

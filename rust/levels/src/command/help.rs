@@ -71,7 +71,7 @@ not zero, if a page has more than 8 keys, or if bytes are left over at the end.
 Without --lenient this is an error with the event's number and byte, and then nothing
 is written.
 
-    levels decode vectors/base/document-01.events
+    levels decode vectors/01/document-01.events
 ";
 
 /// `levels run --help`.
@@ -98,7 +98,7 @@ the line 'sites 2 partitions 3', which says the archive's numbers where the opti
 not. Typed by hand, each line is answered at once.
 
     levels run docs/example.events.txt
-    levels run --lines vectors/base/document-01.events
+    levels run --lines vectors/01/document-01.events
     levels encode docs/example.events.txt | levels run --sites 2 --partitions 2
 ";
 

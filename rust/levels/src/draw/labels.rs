@@ -2,7 +2,7 @@
 
 use level_archive::{Answer, Event, Message};
 
-use crate::story::{Detail, Happening, Unheard};
+use crate::story::{Detail, Happening};
 use crate::words::list;
 
 /// The sites of a stub.
@@ -43,12 +43,10 @@ pub fn result(happening: &Happening) -> Vec<String> {
             }
             _ => vec![stamp(source, at)],
         },
-        (_, Detail::ClockTooEarly { pass, .. }) => vec!["waits".to_string(), format!(">{pass}")],
-        (_, Detail::Unheard(sites)) => {
-            let needed: Vec<String> =
-                sites.iter().map(|Unheard { site, needed, .. }| stamp(*site, *needed)).collect();
-            vec!["waits".to_string(), needed.join(" ")]
-        }
+        (Answer::Wait { site, stamp: needed }, _) => match happening.piece.event() {
+            Ok(Event::Put { .. }) => vec!["waits".to_string(), format!(">{needed}")],
+            _ => vec!["waits".to_string(), stamp(site, needed)],
+        },
         (_, Detail::Sent { stamp: at, .. }) => {
             happening.node.map(|node| stamp(node.site, *at)).into_iter().collect()
         }

@@ -63,7 +63,7 @@ fn at_node(row: Row, event: &Event, happening: &Happening) -> Mark {
 }
 
 fn shape(event: &Event, happening: &Happening) -> Shape {
-    let waits = happening.answer == Answer::Wait;
+    let waits = matches!(happening.answer, Answer::Wait { .. });
     match event {
         Event::Put { .. } => Shape::Square { hollow: waits },
         Event::Get { .. } => Shape::Circle { hollow: waits },

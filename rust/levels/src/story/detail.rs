@@ -13,7 +13,6 @@ pub fn detail(
     node: Option<Node>,
 ) -> Option<Detail> {
     match (event, answer) {
-        (_, Answer::Wait) => why::waits(after, event, node?),
         (_, Answer::Refused(refusal)) => why::refused(after, event, refusal, node),
         (Event::Put { .. }, Answer::Written { source, stamp }) => {
             Some(Detail::Sent { stamp, to: others(after, source) })

@@ -1,38 +1,9 @@
-//! Why an event waits or is refused, from the table that it left unchanged.
+//! Why an event is refused, from the table that it left unchanged.
 
 use level_archive::limits::MESSAGES;
-use level_archive::{Event, NodeView, Refusal, SessionView, View};
+use level_archive::{Event, Refusal, View};
 
-use super::{Detail, Node, Unheard};
-
-/// Why an event waits at a node.
-pub fn waits(view: &View, event: Event, node: Node) -> Option<Detail> {
-    let there = view.node(node.site, node.partition)?;
-    let own = usize::from(node.site);
-    Some(match event {
-        Event::Get { session, .. } => {
-            let mut needed = view.session(session)?.vector;
-            needed[own] = 0; // a GET does not wait for its own site
-            unheard(&there, needed)
-        }
-        Event::Read { session, .. } => unheard(&there, view.session(session)?.page?.vector),
-        Event::Put { session, .. } => clock_too_early(&there, &view.session(session)?, own),
-        _ => return None,
-    })
-}
-
-fn unheard(node: &NodeView, needed: [u64; 4]) -> Detail {
-    let sites = (0..).zip(node.heard.into_iter().zip(needed));
-    let lacking = sites.filter(|(_, (heard, needed))| heard < needed);
-    Detail::Unheard(
-        lacking.map(|(site, (heard, needed))| Unheard { site, heard, needed }).collect(),
-    )
-}
-
-fn clock_too_early(node: &NodeView, session: &SessionView, own: usize) -> Detail {
-    let pass = session.vector.into_iter().fold(node.heard[own], u64::max);
-    Detail::ClockTooEarly { clock: node.clock, pass }
-}
+use super::{Detail, Node};
 
 /// More about a refusal, where there is more to say than its number.
 pub fn refused(view: &View, event: Event, refusal: Refusal, node: Option<Node>) -> Option<Detail> {

@@ -3,9 +3,9 @@
 use level_archive::{Answer, Event, Message, Reading, Record, Refusal};
 
 use super::list::named;
-use crate::story::{Detail, Happening, Unheard};
+use crate::story::{Detail, Happening};
 
-/// What became of an event, as a sentence goes on after it: `waits at node 1,0: ..`.
+/// What became of an event, as a sentence goes on after it: `waits at node 1,0 for ..`.
 pub fn outcome(happening: &Happening) -> String {
     match happening.answer {
         Answer::Written { stamp, .. } => written(happening, stamp),
@@ -16,7 +16,7 @@ pub fn outcome(happening: &Happening) -> String {
             }
             _ => "shows nothing: no record of the key is here".to_string(),
         },
-        Answer::Wait => waits(happening),
+        Answer::Wait { site, stamp } => waits(happening, site, stamp),
         Answer::Refused(refusal) => refused(happening, refusal),
         _ => done(happening),
     }
@@ -73,25 +73,12 @@ fn at_node(happening: &Happening) -> String {
     happening.node.map_or(String::new(), |node| format!(" at node {node}"))
 }
 
-fn waits(happening: &Happening) -> String {
-    let (reader, at) = match happening.piece.event() {
-        Ok(Event::Read { .. }) => ("page", at_node(happening)),
-        _ => ("session", at_node(happening)),
-    };
-    match &happening.detail {
-        Detail::ClockTooEarly { clock, pass } => {
-            let of = happening.node.map_or(String::new(), |node| format!(" of node {node}"));
-            format!("waits: the clock{of} is {clock}, it must pass {pass}")
-        }
-        Detail::Unheard(sites) if !sites.is_empty() => {
-            let each = |one: &Unheard| {
-                let Unheard { site, heard, needed } = one;
-                format!("site {site} up to {heard}, the {reader} needs {needed}")
-            };
-            let each: Vec<String> = sites.iter().map(each).collect();
-            format!("waits{at}: it has heard {}", each.join("; "))
-        }
-        _ => format!("waits{at}"),
+/// What it waits for, the answer says.
+fn waits(happening: &Happening, site: u8, stamp: u64) -> String {
+    let at = at_node(happening);
+    match happening.piece.event() {
+        Ok(Event::Put { .. }) => format!("waits{at} until its clock has passed {stamp}"),
+        _ => format!("waits{at} for site {site} up to {stamp}"),
     }
 }
 

@@ -23,7 +23,7 @@ impl Summary {
         *match answer {
             Answer::Value(_) => &mut self.shown,
             Answer::Nothing => &mut self.nothing,
-            Answer::Wait => &mut self.waits,
+            Answer::Wait { .. } => &mut self.waits,
             Answer::Refused(_) => &mut self.refused,
             _ => &mut self.done,
         } += 1;

@@ -14,7 +14,7 @@ fn count(svg: &str, what: &str) -> usize {
 
 #[test]
 fn document_01_as_a_picture() {
-    let svg = levels(&["draw"], &read("vectors/base/document-01.events")).text();
+    let svg = levels(&["draw"], &read("vectors/01/document-01.events")).text();
     assert_eq!(well_formed(&svg), Ok(()));
     assert_eq!(count(&svg, "class=\"arrow\""), 2);
     assert_eq!(count(&svg, "class=\"arrow beat\""), 1);
@@ -26,7 +26,13 @@ fn document_01_as_a_picture() {
         assert_eq!(count(&svg, &format!(">{node}<")), 1, "{node}");
     }
     assert_eq!(count(&svg, ">site 2, "), 0);
-    assert!(svg.contains("<title>11. GET session 1 key 4 waits at node 1,0: it has heard site 0 up to 0, the session needs 101</title>"));
+    for title in [
+        "6. PUT session 0 key 5 quality 1 level -30 waits at node 0,1 until its clock has passed 100",
+        "11. GET session 1 key 4 waits at node 1,0 for site 0 up to 101",
+    ] {
+        assert_eq!(count(&svg, &format!("<title>{title}</title>")), 1, "{title}");
+    }
+    assert_eq!((count(&svg, ">waits<"), count(&svg, ">&gt;100<")), (3, 1));
 }
 
 #[test]

@@ -13,7 +13,7 @@ fn every_event_file_gives_its_lines() {
 #[test]
 fn text_gives_the_lines_of_its_bytes() {
     let text = read("rust/levels/tests/document-01.txt");
-    let out = String::from_utf8(read("vectors/base/document-01.out")).expect("text");
+    let out = String::from_utf8(read("vectors/01/document-01.out")).expect("text");
     assert_eq!(levels(&["run", "--lines"], &text).text(), out);
     for (bytes, _) in vectors() {
         let good = bytes.chunks(32).filter(|piece| Event::try_from(*piece).is_ok());

@@ -62,14 +62,14 @@ pub fn read(path: &str) -> Vec<u8> {
 
 /// The event files, each with the lines that the bench gives it.
 pub fn vectors() -> Vec<(Vec<u8>, String)> {
-    let folder = fs::read_dir(repository("vectors/base")).expect("vectors/base");
+    let folder = fs::read_dir(repository("vectors/01")).expect("vectors/01");
     let mut names: Vec<String> = folder
         .map(|entry| entry.expect("an entry").file_name().into_string().expect("a name"))
         .filter_map(|name| name.strip_suffix(".events").map(str::to_string))
         .collect();
     names.sort();
     assert!(names.len() >= 8);
-    let file = |name: &String, end: &str| read(&format!("vectors/base/{name}.{end}"));
+    let file = |name: &String, end: &str| read(&format!("vectors/01/{name}.{end}"));
     let pair = |name| (file(name, "events"), String::from_utf8(file(name, "out")).expect("text"));
     names.iter().map(pair).collect()
 }

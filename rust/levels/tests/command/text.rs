@@ -6,7 +6,7 @@ use level_archive::Event;
 #[test]
 fn document_01_there_and_back() {
     let text = read("rust/levels/tests/document-01.txt");
-    let bytes = read("vectors/base/document-01.events");
+    let bytes = read("vectors/01/document-01.events");
     assert_eq!(levels(&["encode"], &text).good(), bytes);
 
     let canonical = levels(&["decode"], &bytes).good();
@@ -34,13 +34,13 @@ fn every_event_file_there_and_back() {
 
 #[test]
 fn files_as_well_as_standard_input_and_output() {
-    let events = repository("vectors/base/document-01.events");
+    let events = repository("vectors/01/document-01.events");
     let events = events.to_str().expect("a name");
     let text = scratch("there.txt", b"");
     let back = scratch("back.events", b"old");
     assert!(levels(&["decode", events, &format!("-o{text}")], b"").good().is_empty());
     assert!(levels(&["encode", &text, "--output", &back], b"").good().is_empty());
-    assert_eq!(std::fs::read(back).expect("written"), read("vectors/base/document-01.events"));
+    assert_eq!(std::fs::read(back).expect("written"), read("vectors/01/document-01.events"));
     assert_eq!(levels(&["encode", "-"], b"").good(), b"");
 }
 

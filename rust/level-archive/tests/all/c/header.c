@@ -1,10 +1,30 @@
-/* Prints what the header's functions give, for tests/all/c.rs to compare: the version, the texts, the events, sizes and places, limits, an answer out of bytes. */
+/* Prints what the header's functions give, for tests/all/c.rs to compare: the version, the texts, the texts of answers, the events, sizes and places, limits, an answer out of bytes. */
 #include <inttypes.h>
 #include <stdio.h>
 
 #include "level_archive.h"
 
 static uint8_t event[LEVEL_ARCHIVE_EVENT_BYTES];
+
+/* What answers tell a GET, a READ and a PUT: every number, and waits. The bytes behind the text stay. */
+static void print_answer_texts(void) {
+    static const level_archive_answer waits[] = {
+        {3, 0, 0, 0, 0}, {3, 1, 0, 0, 9}, {3, 2, 0, 0, 10}, {3, 3, 0, 0, 101}, {3, 99, 0, 0, 999}, {3, 255, 0, 0, UINT64_MAX}};
+    static const uint8_t codes[3] = {LEVEL_ARCHIVE_EVENT_GET, LEVEL_ARCHIVE_EVENT_READ, LEVEL_ARCHIVE_EVENT_PUT};
+    level_archive_answer answer = {0, 0, 0, 0, 0};
+    char text[LEVEL_ARCHIVE_WAIT_TEXT_BYTES + 1];
+    int code, place;
+    for (code = 0; code < 3; code++) {
+        event[0] = codes[code];
+        for (place = 0; place < 256 + 6; place++) {
+            answer.number = (uint8_t)place;
+            if (place == 3) continue;
+            memset(text, 'x', sizeof text);
+            level_archive_wait_text(text, event, place < 256 ? answer : waits[place - 256]);
+            printf("%s%s\n", text, text[LEVEL_ARCHIVE_WAIT_TEXT_BYTES] == 'x' ? "" : ": too long");
+        }
+    }
+}
 
 static void print_event(void) {
     int place;
@@ -51,6 +71,7 @@ int main(void) {
     int number;
     printf("%s %d\n", LEVEL_ARCHIVE_VERSION, LEVEL_ARCHIVE_VERSION_NUMBER);
     for (number = 0; number < 256; number++) printf("%d %s\n", number, level_archive_text((uint8_t)number));
+    print_answer_texts();
     print_events();
     printf("%d %d %d ", (int)sizeof(level_archive_answer), (int)offsetof(level_archive_answer, level), (int)offsetof(level_archive_answer, stamp));
     printf("%d %d %d\n", LEVEL_ARCHIVE_TABLE_BYTES, LEVEL_ARCHIVE_EVENT_BYTES, LEVEL_ARCHIVE_ANSWER_BYTES);
