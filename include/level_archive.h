@@ -86,7 +86,7 @@ enum {
     LEVEL_ARCHIVE_ILL_FORMED = 24     /* the table is not well formed */
 };
 
-/* The number in words. What a wait waits for, level_archive_wait_text says. */
+/* The number in words. What a wait waits for, level_archive_told says. */
 static inline const char *level_archive_text(uint8_t number) {
     switch (number) {
     case LEVEL_ARCHIVE_DONE: return "done";
@@ -143,15 +143,15 @@ static inline char *level_archive_write_number(char *at, uint64_t number) {
     return at;
 }
 
-#define LEVEL_ARCHIVE_WAIT_TEXT_BYTES 80 /* has room for every text of this header, with its final zero */
+#define LEVEL_ARCHIVE_TOLD_BYTES 80 /* has room for every text of this header, with its final zero */
 
 /*
  * Writes what an answer tells its event: of a GET or READ that waits "waits for site 0
  * up to 101", of a PUT that waits "waits until the clock of site 0 has passed 100", and
  * for every other answer the text of its number.
  */
-static inline void level_archive_wait_text(char text[LEVEL_ARCHIVE_WAIT_TEXT_BYTES],
-                                           const uint8_t event[LEVEL_ARCHIVE_EVENT_BYTES], level_archive_answer answer) {
+static inline void level_archive_told(char text[LEVEL_ARCHIVE_TOLD_BYTES],
+                                      const uint8_t event[LEVEL_ARCHIVE_EVENT_BYTES], level_archive_answer answer) {
     const int put = event[0] == LEVEL_ARCHIVE_EVENT_PUT;
     if (answer.number == LEVEL_ARCHIVE_WAIT) {
         text = level_archive_write_text(text, put ? "waits until the clock of site " : "waits for site ");

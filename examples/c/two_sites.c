@@ -15,8 +15,8 @@ static uint8_t table[LEVEL_ARCHIVE_TABLE_BYTES];
 
 static void step(const char *what, const uint8_t event[LEVEL_ARCHIVE_EVENT_BYTES]) {
     const level_archive_answer answer = level_archive_step(table, sizeof table, event, LEVEL_ARCHIVE_EVENT_BYTES);
-    char text[LEVEL_ARCHIVE_WAIT_TEXT_BYTES];
-    level_archive_wait_text(text, event, answer); /* names the site and the stamp that an event waits for */
+    char text[LEVEL_ARCHIVE_TOLD_BYTES];
+    level_archive_told(text, event, answer); /* names the site and the stamp that an event waits for */
     if (answer.number == LEVEL_ARCHIVE_VALUE)
         printf("%-30s %" PRId32 " mm, site %d at %" PRIu64 "\n", what, answer.level, answer.source, answer.stamp);
     else

@@ -4,6 +4,7 @@ pub mod Calls
 pub mod Unique
 pub mod Still
 pub mod Story
+pub mod Waits
 pub mod StandIns
 pub mod Writes
 pub mod Changes

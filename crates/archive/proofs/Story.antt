@@ -58,15 +58,18 @@ and-unknown false b t = refl
 abbrev stepped : List ℕ → List ℕ → Called
 stepped t e = gives (step (decode t) (eventOf e) .says) (putChanges (step (decode t) (eventOf e) .changes) t)
 
-pub step-event : (t e : List ℕ) → Sound tableLength t → T (isEvent e) → stepCall t e ≡ stepped t e
+pub call-event : (t e : List ℕ) → length t ≡ tableLength → T (wellFormed t) → T (isEvent e) → stepCall t e ≡ stepped t e
 unfolding stepCall stepOn isEvent
-step-event t e R i =
+call-event t e size formed i =
     let a = and-yes (eqb (length e) 32) (codeLawful e && unusedZero e) i in
     let b = and-yes (codeLawful e) (unusedZero e) (a .1) in
-    cond-yes (eqb (length t) tableLength && eqb (length e) 32) _ _ (yes-and (eqb (length t) tableLength) (eqb (length e) 32) (yes-eqb (length t) tableLength (R .size)) (a .0))
-    ∙ cond-yes (wellFormed t) _ _ (R .formed)
+    cond-yes (eqb (length t) tableLength && eqb (length e) 32) _ _ (yes-and (eqb (length t) tableLength) (eqb (length e) 32) (yes-eqb (length t) tableLength size) (a .0))
+    ∙ cond-yes (wellFormed t) _ _ formed
     ∙ cond-yes (codeLawful e) _ _ (b .0)
     ∙ cond-yes (unusedZero e) _ _ (b .1)
+
+pub step-event : (t e : List ℕ) → Sound tableLength t → T (isEvent e) → stepCall t e ≡ stepped t e
+step-event t e R i = call-event t e (R .size) (R .formed) i
 
 -- bytes that are no event are refused before the protocol, and not with 24
 record Turned (t : List ℕ) (c : Called) : Type 0 where

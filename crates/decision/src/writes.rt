@@ -98,7 +98,9 @@ fn to_pass(t: &[u8], m: u8, p: u8, v: Vector) -> u64
     requires { ⌜ Long (now t) × (m < 4) × (p < 4) ⌝ }
     ensures { λ r. ⌜ r ≡ toPass (asVec v) (heardIn (nodeOf (siteOf (now (t .entry)) m) p) m) ⌝ }
 {
-    vector::later(v.largest(), own(t, m, p))
+    let seen = v.largest();
+    let latest = own(t, m, p);
+    vector::later(seen, latest)
 }
 
 pub fn put(t: &[u8], s: u8, key: u8, quality: u8, level: i32) -> Decided

@@ -1,4 +1,4 @@
--- The lines of vectors/01/document-01.events, and a page with its refusals, computed by the checker.
+-- The lines of vectors/01/document-01.events, what waits name, and a page with its refusals, computed by the checker.
 use Prim.Native.Nat.{ℕ}
 use mathlib.Core.Path.{_≡_, refl}
 use mathlib.Core.List.{List, [], _∷_}
@@ -79,6 +79,76 @@ benchAnswers =
 bench : answers (log (setup (record { sites = 4; partitions = 4 })) benchEvents) ≡ benchAnswers
 unfolding computing benchEvents benchAnswers
 bench = refl
+
+-- ---- what waits name: the first of two sites, then the second; a READ its own; a PUT the node's own entry, and what its session has seen
+
+waitEvents : List Event
+waitEvents =
+    OPEN 0 0
+    ∷ OPEN 1 1
+    ∷ OPEN 2 2
+    ∷ CLOCK 0 0 10
+    ∷ PUT 0 0 0 (pos 1)
+    ∷ CLOCK 1 0 12
+    ∷ PUT 1 2 0 (pos 2)
+    ∷ DELIVER 0 2 0
+    ∷ GET 2 0
+    ∷ DELIVER 1 2 0
+    ∷ GET 2 2
+    ∷ GET 2 1
+    ∷ CLOCK 0 1 10
+    ∷ BEAT 0 1
+    ∷ DELIVER 0 2 1
+    ∷ GET 2 1
+    ∷ CLOCK 2 0 20
+    ∷ BEAT 2 0
+    ∷ BEGIN 2 0 (1 ∷ [])
+    ∷ CLOCK 1 1 12
+    ∷ BEAT 1 1
+    ∷ DELIVER 1 2 1
+    ∷ READ 2 1
+    ∷ CLOSE 2
+    ∷ OPEN 2 2
+    ∷ PUT 2 0 0 (pos 3)
+    ∷ GET 2 0
+    ∷ PUT 2 1 0 (pos 4)
+    ∷ []
+
+waitAnswers : List Answer
+waitAnswers =
+    Done
+    ∷ Done
+    ∷ Done
+    ∷ Done
+    ∷ Stamped 0 10
+    ∷ Done
+    ∷ Stamped 1 12
+    ∷ Done
+    ∷ showing 0 0 (pos 1) 10
+    ∷ Done
+    ∷ showing 1 0 (pos 2) 12
+    ∷ waiting 0 10
+    ∷ Done
+    ∷ Done
+    ∷ Done
+    ∷ waiting 1 12
+    ∷ Done
+    ∷ Done
+    ∷ Done
+    ∷ Done
+    ∷ Done
+    ∷ Done
+    ∷ waiting 2 20
+    ∷ Done
+    ∷ Done
+    ∷ waiting 2 20
+    ∷ showing 0 0 (pos 1) 10
+    ∷ waiting 2 10
+    ∷ []
+
+names : answers (log (setup (record { sites = 3; partitions = 2 })) waitEvents) ≡ waitAnswers
+unfolding computing waitEvents waitAnswers
+names = refl
 
 -- ---- a page, and every refusal of the model but 21 and 22
 

@@ -1,6 +1,7 @@
 -- What a wait names is short, and while it stays short the event goes on waiting. A wait comes from an event's last need alone, so all others hold.
--- In order: that last need; the lowest site that is short; GET, READ, PUT; the promises.
+-- In order: that last need; the lowest site that is short; each event by its last need; what is named, and that it exists; while it stays short.
 use Prim.Native.Nat.{ℕ, _≤_, _<_, max}
+use native.Mathlib.Decide.{decLt}
 use native.Mathlib.Omega.{arith}
 use mathlib.Core.Path.{_≡_, refl, sym, ap, subst, _∙_}
 use mathlib.Core.Logic.{_≢_, _⊎_, inl, inr}
@@ -199,14 +200,51 @@ names-what-is-short S (END s) e = no-wait S (END s) tt tt e
 names-what-is-short S (BEAT m p) e = no-wait S (BEAT m p) tt tt e
 names-what-is-short S (DELIVER i m p) e = no-wait S (DELIVER i m p) tt tt e
 
+-- ---- the site that is named exists, where open sessions keep to the sites there are
+
+pub record Within (n : ℕ) (x : Session) : Type 0 where
+  pub site : x .site < n
+  pub vec : (i : ℕ) → n ≤ i → x .vec i ≡ 0
+  pub page : (i : ℕ) → n ≤ i → x .page .vec i ≡ 0
+
+-- a site that is short has an entry above 0
+within-short : (n : ℕ) (v w : Vec) (P : ℕ → Type 0) (i t : ℕ) → ((j : ℕ) → n ≤ j → v j ≡ 0) → ShortOf v w P i t → i < n
+within-short n v w P i t z k = go (decLt i n)
+  where
+    go : Dec (i < n) → i < n
+    go (yes l) = l
+    go (no l) = let a = k .stamp in let b = k .short in let c = z i (omega arith) in absurd (omega arith)
+
+pub named-exists : (S : State) (n : ℕ) → ((s : ℕ) → s < 16 → T (S .session s .isOpen) → Within n (S .session s)) → (e : Event) → let a = valuesOf (step S e .says) in a .number ≡ 3 → a .source < n
+unfolding WaitsFor
+named-exists S n all (GET s k) z =
+    let g = get-fails S s k z in
+    within-short n _ _ _ _ _ (all s (ltb-yes (g .fields .0)) (g .before .0) .vec) (names-what-is-short S (GET s k) z)
+named-exists S n all (READ s k) z =
+    let g = read-fails S s k z in
+    within-short n _ _ _ _ _ (all s (ltb-yes (g .fields .0)) (g .before .0) .page) (names-what-is-short S (READ s k) z)
+named-exists S n all (PUT s k q l) z =
+    let g = put-fails S s k q l z in
+    rw (names-what-is-short S (PUT s k q l) z .site) (all s (ltb-yes (g .fields .0)) (g .before .0) .site)
+named-exists S n all (OPEN s m) z = absurd (names-what-is-short S (OPEN s m) z)
+named-exists S n all (CLOSE s) z = absurd (names-what-is-short S (CLOSE s) z)
+named-exists S n all (CLOCK m p t) z = absurd (names-what-is-short S (CLOCK m p t) z)
+named-exists S n all (BEGIN s p ks) z = absurd (names-what-is-short S (BEGIN s p ks) z)
+named-exists S n all (END s) z = absurd (names-what-is-short S (END s) z)
+named-exists S n all (BEAT m p) z = absurd (names-what-is-short S (BEAT m p) z)
+named-exists S n all (DELIVER i m p) z = absurd (names-what-is-short S (DELIVER i m p) z)
+
 -- ---- while it stays short
+
+abbrev GoesOn : (S R : State) (s k : ℕ) → Event → Type 0
+GoesOn S R s k e = let a = valuesOf (step S e .says) in a .number ≡ 3 → heardAt R s k (a .source) < a .stamp → numberOf (step R e .says) ≡ 3
 
 module _ (S R : State) (s k : ℕ) (L : SameSession S R s) where
   -- what holds of the session in S holds in R
   still : (P : Session → Type 0) → P (S .session s) → P (R .session s)
   still P h = subst P (sym (L .session)) h
 
-  get-goes-on : numberOf (step S (GET s k) .says) ≡ 3 → heardAt R s k (valuesOf (step S (GET s k) .says) .source) < valuesOf (step S (GET s k) .says) .stamp → numberOf (step R (GET s k) .says) ≡ 3
+  get-goes-on : GoesOn S R s k (GET s k)
   unfolding WaitsFor getReady waitFor
   get-goes-on e l =
       let g = get-fails S s k e in
@@ -217,7 +255,7 @@ module _ (S R : State) (s k : ℕ) (L : SameSession S R s) where
       let f = not-ready-but (y .site) (y .vec) (heardAt R s k) i (w .site) (still (λ z. i ≢ z .site) (w .waited)) behind in
       ap (λ o. numberOf (o .says)) (get-by-last R s k ∙ still-fails (getRanges R s k) (getNeeds R s k) (getWaits R s k) _ (g .fields) (still (λ z. T (z .isOpen) × (T (not (z .page .isOpen)) × Unit {0})) (g .before)) f)
 
-  read-goes-on : numberOf (step S (READ s k) .says) ≡ 3 → heardAt R s k (valuesOf (step S (READ s k) .says) .source) < valuesOf (step S (READ s k) .says) .stamp → numberOf (step R (READ s k) .says) ≡ 3
+  read-goes-on : GoesOn S R s k (READ s k)
   unfolding WaitsFor readReady waitFor
   read-goes-on e l =
       let g = read-fails S s k e in
@@ -229,8 +267,8 @@ module _ (S R : State) (s k : ℕ) (L : SameSession S R s) where
       ap (λ o. numberOf (o .says)) (read-by-last R s k ∙ still-fails (getRanges R s k) (readNeeds R s k) (readWaits R s k) _ (g .fields) (still (λ z. T (z .isOpen) × (T (z .page .isOpen) × (T (awaited k (z .page .marks)) × Unit {0}))) (g .before)) f)
 
 pub reads-go-on : ReadsGoOn
-reads-go-on S R s k e (inl q) L = subst (λ e. let a = valuesOf (step S e .says) in a .number ≡ 3 → heardAt R s k (a .source) < a .stamp → numberOf (step R e .says) ≡ 3) (sym q) (get-goes-on S R s k L)
-reads-go-on S R s k e (inr q) L = subst (λ e. let a = valuesOf (step S e .says) in a .number ≡ 3 → heardAt R s k (a .source) < a .stamp → numberOf (step R e .says) ≡ 3) (sym q) (read-goes-on S R s k L)
+reads-go-on S R s k e (inl q) L = subst (GoesOn S R s k) (sym q) (get-goes-on S R s k L)
+reads-go-on S R s k e (inr q) L = subst (GoesOn S R s k) (sym q) (read-goes-on S R s k L)
 
 pub puts-go-on : PutsGoOn
 unfolding WaitsFor putReady toPass

@@ -12,7 +12,7 @@ static void print_answer_texts(void) {
         {3, 0, 0, 0, 0}, {3, 1, 0, 0, 9}, {3, 2, 0, 0, 10}, {3, 3, 0, 0, 101}, {3, 99, 0, 0, 999}, {3, 255, 0, 0, UINT64_MAX}};
     static const uint8_t codes[3] = {LEVEL_ARCHIVE_EVENT_GET, LEVEL_ARCHIVE_EVENT_READ, LEVEL_ARCHIVE_EVENT_PUT};
     level_archive_answer answer = {0, 0, 0, 0, 0};
-    char text[LEVEL_ARCHIVE_WAIT_TEXT_BYTES + 1];
+    char text[LEVEL_ARCHIVE_TOLD_BYTES + 1];
     int code, place;
     for (code = 0; code < 3; code++) {
         event[0] = codes[code];
@@ -20,8 +20,8 @@ static void print_answer_texts(void) {
             answer.number = (uint8_t)place;
             if (place == 3) continue;
             memset(text, 'x', sizeof text);
-            level_archive_wait_text(text, event, place < 256 ? answer : waits[place - 256]);
-            printf("%s%s\n", text, text[LEVEL_ARCHIVE_WAIT_TEXT_BYTES] == 'x' ? "" : ": too long");
+            level_archive_told(text, event, place < 256 ? answer : waits[place - 256]);
+            printf("%s%s\n", text, text[LEVEL_ARCHIVE_TOLD_BYTES] == 'x' ? "" : ": too long");
         }
     }
 }
