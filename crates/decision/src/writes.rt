@@ -8,7 +8,7 @@ ghost use Rattle.vector.specs.Entries.{entry};
 ghost use Rattle.vector.specs.Meaning.{asVec};
 ghost use Rattle.protocol.specs.Event.{CLOCK, BEAT, PUT, DELIVER};
 ghost use Rattle.protocol.specs.Needs.{toPass};
-ghost use Rattle.parts.specs.Node.{clockIn, heardIn, heldIn};
+ghost use Rattle.parts.specs.Node.{heardIn, heldIn};
 ghost use Rattle.parts.specs.Channel.{waitIn};
 ghost use Rattle.table.specs.Parts.{Long, siteOf, nodeOf, channelOf};
 ghost use Rattle.table.specs.Decode.{decode};

@@ -5,7 +5,7 @@ use native.Mathlib.Decide.{decLt}
 use native.Mathlib.Omega.{arith}
 use mathlib.Core.Path.{_≡_, refl, sym, ap, subst, _∙_}
 use mathlib.Core.Logic.{_≢_, _⊎_, inl, inr}
-use mathlib.Core.Bool.{Bool, true, false, not, _||_}
+use mathlib.Core.Bool.{Bool, true, false, not}
 use mathlib.Core.List.{List, [], _∷_}
 use lib.Dec.{T, leb, ltb, eqb}
 use lib.IntN.{ℤ}
@@ -16,11 +16,11 @@ use Rattle.vector.proofs.Vec.{LeV, at-most-le, at-most-but-le, first-short, fir
 use Rattle.protocol.specs.Record.{partitionOf}
 use Rattle.protocol.specs.State.{Session, State}
 use Rattle.protocol.specs.Event.{Event, OPEN, CLOSE, CLOCK, GET, PUT, BEGIN, READ, END, BEAT, DELIVER, Refused, plain, waitFor, numberOf, valuesOf}
-use Rattle.protocol.specs.View.{View, view}
+use Rattle.protocol.specs.View.{view}
 use Rattle.protocol.specs.Needs.{Need, _else_, waits, levelLawful, getReady, toPass, putReady, readReady, storeRoom, sendRoom, awaited, ranges, needs}
 use Rattle.protocol.specs.Serve.{Outcome, _and_, serve}
 use Rattle.protocol.specs.Step.{judge, judged, decide, step}
-use Rattle.protocol.specs.Waits.{heardAt, clockAt, ShortOf, ShortClock, WaitsFor, Waits, SameSession, ReadsGoOn, PutsGoOn}
+use Rattle.protocol.specs.Waits.{heardAt, clockAt, ShortOf, WaitsFor, Waits, SameSession, ReadsGoOn, PutsGoOn}
 use Rattle.protocol.proofs.Judge.{Met, judge-met}
 use Rattle.protocol.proofs.Numbers.{without, Free, judge-passed, serve-free, step-free}
 

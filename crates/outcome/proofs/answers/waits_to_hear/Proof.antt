@@ -1,6 +1,5 @@
 -- `outcome::answers::waits_to_hear` meets its contract: there is a site that is short, so its number is below the width.
 use Prim.Native.Nat.{_<_}
-use native.Mathlib.Omega.{arith}
 use mathlib.Core.Path.{sym, subst}
 use mathlib.Core.Bool.{not}
 use lib.Dec.{T}
