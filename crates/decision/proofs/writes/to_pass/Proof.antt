@@ -1,4 +1,6 @@
 -- `decision::writes::to_pass` meets its contract.
+use Prim.Native.Nat.{max}
+use mathlib.Core.Path.{ap₂, _∙_}
 use Rattle.protocol.specs.Needs.{toPass}
 use Rattle.decision.proofs.writes.to_pass.Statement.{statement}
 use Rattle.decision.proofs.writes.to_pass.Tie as tie
@@ -15,7 +17,7 @@ later-requires c κs = search needs
 
 returns : tie.Need-returns
 unfolding toPass
-returns c = rw (c .later .ensures, c .before .own .ensures, c .before .before .largest .ensures)
+returns c = c .later .ensures ∙ ap₂ max (c .before .before .largest .ensures) (c .before .own .ensures)
 
 pub to-pass-spec : {M : Type 1} → statement M
 to-pass-spec = tie.close (tie.spec largest-requires own-requires later-requires returns)
