@@ -11,9 +11,9 @@ use Rattle.vector.specs.Vec.{Vec, largest, withEntry, atLeast}
 use Rattle.protocol.specs.Record.{Setting, partitionOf, Id, Rec, Update, ofKey, fitsPage, raisedBy}
 use Rattle.protocol.specs.Shelf.{found}
 use Rattle.protocol.specs.State.{Session, State, withVec, withPage, setup}
-use Rattle.protocol.specs.Event.{Event, OPEN, CLOSE, CLOCK, GET, PUT, BEGIN, READ, END, BEAT, DELIVER, Answer, Stamped, Nothing, shown}
+use Rattle.protocol.specs.Event.{Event, OPEN, CLOSE, CLOCK, GET, PUT, BEGIN, READ, END, BEAT, DELIVER, Answer, Stamped, Nothing, waitFor, shown}
 use Rattle.protocol.specs.View.{View, view}
-use Rattle.protocol.specs.Needs.{_else_, waits, ranges, toPass, putReady, storeRoom, sendRoom, needs}
+use Rattle.protocol.specs.Needs.{_orElse_, _else_, ranges, toPass, putReady, storeRoom, sendRoom, needs}
 use Rattle.protocol.specs.Change.{SetSession, Publish, applyAll}
 use Rattle.protocol.specs.Serve.{Outcome, _and_, readOn, written, serve}
 use Rattle.protocol.specs.Step.{judge, judged, decide, Line, log}
@@ -47,7 +47,7 @@ judgedBy R v (PUT s k q l) =
     let x = v .session in
     let p = partitionOf (v .setting) k in
     let t = v .clock p in
-    judge (x .isOpen else 12 ∷ not (x .page .isOpen) else 14 ∷ storeRoom (v .store p) else 22 ∷ sendRoom v (x .site) p else 21 ∷ waits (R .ready (x .vec) (v .heard p (x .site)) t) (x .site) (toPass (x .vec) (v .heard p (x .site))) ∷ [])
+    judge (x .isOpen else 12 ∷ not (x .page .isOpen) else 14 ∷ storeRoom (v .store p) else 22 ∷ sendRoom v (x .site) p else 21 ∷ R .ready (x .vec) (v .heard p (x .site)) t orElse waitFor (x .site) (toPass (x .vec) (v .heard p (x .site))) ∷ [])
     (Stamped (x .site) t and
     Publish (x .site) p (Update (carrying (written x k q l t) (R .carries x t))) ∷
     SetSession s (withVec x (withEntry (x .vec) (x .site) t)) ∷ [])

@@ -17,7 +17,7 @@ use Rattle.protocol.specs.Record.{partitionOf}
 use Rattle.protocol.specs.State.{Session, State}
 use Rattle.protocol.specs.Event.{Event, OPEN, CLOSE, CLOCK, GET, PUT, BEGIN, READ, END, BEAT, DELIVER, Refused, plain, waitFor, numberOf, valuesOf}
 use Rattle.protocol.specs.View.{view}
-use Rattle.protocol.specs.Needs.{Need, _else_, waits, levelLawful, getReady, toPass, putReady, readReady, storeRoom, sendRoom, awaited, ranges, needs}
+use Rattle.protocol.specs.Needs.{Need, _orElse_, _else_, levelLawful, getReady, toPass, putReady, readReady, storeRoom, sendRoom, awaited, ranges, needs}
 use Rattle.protocol.specs.Serve.{Outcome, _and_, serve}
 use Rattle.protocol.specs.Step.{judge, judged, decide, step}
 use Rattle.protocol.specs.Waits.{heardAt, clockAt, ShortOf, WaitsFor, Waits, SameSession, ReadsGoOn, PutsGoOn}
@@ -106,7 +106,7 @@ module _ (S : State) (s k : ℕ) where
   getNeeds = x .isOpen else 12 ∷ not (x .page .isOpen) else 14 ∷ []
 
   abbrev getWaits : Need
-  getWaits = let i = firstShortBut (x .site) (x .vec) (heardAt S s k) in waits (getReady (x .site) (heardAt S s k) (x .vec)) i (x .vec i)
+  getWaits = let i = firstShortBut (x .site) (x .vec) (heardAt S s k) in getReady (x .site) (heardAt S s k) (x .vec) orElse waitFor i (x .vec i)
 
   get-by-last : step S (GET s k) ≡ byLast getRanges getNeeds getWaits (serve (view S (GET s k)) (GET s k))
   unfolding step decide judged judge ranges needs
@@ -120,7 +120,7 @@ module _ (S : State) (s k : ℕ) where
   readNeeds = x .isOpen else 12 ∷ x .page .isOpen else 15 ∷ awaited k (x .page .marks) else 16 ∷ []
 
   abbrev readWaits : Need
-  readWaits = let i = firstShort (x .page .vec) (heardAt S s k) in waits (readReady (heardAt S s k) (x .page .vec)) i (x .page .vec i)
+  readWaits = let i = firstShort (x .page .vec) (heardAt S s k) in readReady (heardAt S s k) (x .page .vec) orElse waitFor i (x .page .vec i)
 
   read-by-last : step S (READ s k) ≡ byLast getRanges readNeeds readWaits (serve (view S (READ s k)) (READ s k))
   unfolding step decide judged judge ranges needs
@@ -145,7 +145,7 @@ module _ (S : State) (s k : ℕ) where
     putNeeds = x .isOpen else 12 ∷ not (x .page .isOpen) else 14 ∷ slot else 22 ∷ room else 21 ∷ []
 
     abbrev putWaits : Need
-    putWaits = let own = heardAt S s k (x .site) in waits (putReady (x .vec) own (clockAt S s k)) (x .site) (toPass (x .vec) own)
+    putWaits = let own = heardAt S s k (x .site) in putReady (x .vec) own (clockAt S s k) orElse waitFor (x .site) (toPass (x .vec) own)
 
     abbrev put : Outcome
     put = serve (view S (PUT s k q l)) (PUT s k q l)

@@ -15,16 +15,17 @@ use Rattle.protocol.specs.State.{Mark}
 use Rattle.protocol.specs.Event.{Event, OPEN, CLOSE, CLOCK, GET, PUT, BEGIN, READ, END, BEAT, DELIVER, Refusal, plain, waitFor}
 use Rattle.protocol.specs.View.{View}
 
+infix 80 _orElse_
 infix 80 _else_
 pub record Need : Type 0 where
   pub holds : Bool
   pub refusal : Refusal
 
-abbrev pub _else_ : Bool → ℕ → Need
-b else n = record { holds = b; refusal = plain n }
+abbrev pub _orElse_ : Bool → Refusal → Need
+b orElse w = record { holds = b; refusal = w }
 
-abbrev pub waits : Bool → (site stamp : ℕ) → Need
-waits b m t = record { holds = b; refusal = waitFor m t }
+abbrev pub _else_ : Bool → ℕ → Need
+b else n = b orElse plain n
 
 -- ---- 11: the range of each used field (R32), in the order of the event's bytes
 
@@ -108,7 +109,7 @@ needs v (GET s k) =
     let short = firstShortBut (x .site) (x .vec) node in
     x .isOpen else 12 ∷
     not (x .page .isOpen) else 14 ∷
-    waits (getReady (x .site) node (x .vec)) short (x .vec short) ∷ []
+    getReady (x .site) node (x .vec) orElse waitFor short (x .vec short) ∷ []
 needs v (PUT s k q l) =
     let x = v .session in
     let p = partitionOf (v .setting) k in
@@ -117,7 +118,7 @@ needs v (PUT s k q l) =
     not (x .page .isOpen) else 14 ∷
     storeRoom (v .store p) else 22 ∷
     sendRoom v (x .site) p else 21 ∷
-    waits (putReady (x .vec) own (v .clock p)) (x .site) (toPass (x .vec) own) ∷ []
+    putReady (x .vec) own (v .clock p) orElse waitFor (x .site) (toPass (x .vec) own) ∷ []
 needs v (BEGIN s p ks) =
     let x = v .session in
     x .isOpen else 12 ∷
@@ -130,7 +131,7 @@ needs v (READ s k) =
     x .isOpen else 12 ∷
     x .page .isOpen else 15 ∷
     awaited k (x .page .marks) else 16 ∷
-    waits (readReady node (x .page .vec)) short (x .page .vec short) ∷ []
+    readReady node (x .page .vec) orElse waitFor short (x .page .vec short) ∷ []
 needs v (END s) =
     let x = v .session in
     x .isOpen else 12 ∷
