@@ -2,14 +2,20 @@
 use Prim.Native.Nat.{ℕ, zero, suc, _*_}
 use mathlib.Core.Path.{_≡_, refl, ap, _∙_}
 use mathlib.Core.Logic.{_≢_}
-use mathlib.Core.Bool.{Bool, true, false, cond}
+use mathlib.Core.Bool.{Bool, true, false, cond, not, _&&_}
 use mathlib.Core.List.{List}
 use lib.Dec.{T, eqb}
 use lib.ListN.{length, replicate}
+use mir.Facts.{and-yes, yes-and}
 use borrow.Author.Tests.{eq-eqb, ne-eqb}
 use Rattle.codec.specs.Le.{put}
+use Rattle.codec.proofs.Tests.{cond-elim}
 use Rattle.protocol.specs.declared.Answer.the-variants.{Done}
-use Rattle.table.specs.Put.{fresh}
+use Rattle.protocol.specs.Step.{step}
+use Rattle.event.specs.Event.{codeLawful, eventOf}
+use Rattle.event.specs.Fields.{unusedZero}
+use Rattle.table.specs.Decode.{decode}
+use Rattle.table.specs.Put.{putChanges, fresh}
 use Rattle.table.specs.Parts.{tableLength}
 use Rattle.lawful.specs.LawfulValues.{settingLawful}
 use Rattle.lawful.specs.WellFormed.{wellFormed}
@@ -19,6 +25,7 @@ use Rattle.steps.specs.Step.{Called, gives, refused, stepOn}
 use Rattle.steps.specs.Run.{putAnswer, ran, pieceAnswered, runBy, pieceCall, pieceRefused}
 use Rattle.steps.proofs.Kept.{piece-keeps}
 use Rattle.archive.specs.Call.{stepCall, setupCall}
+use Rattle.archive.specs.Story.{isEvent}
 
 -- ---- setup
 
@@ -76,6 +83,21 @@ module _ (t e : List ℕ) where
       go : (b : Bool) → refused 23 t ≡ refused (cond b 23 23) t
       go true = refl
       go false = refl
+
+-- the protocol's answer and changes
+abbrev pub stepped : List ℕ → List ℕ → Called
+stepped t e = let o = step (decode t) (eventOf e) in gives (o .says) (putChanges (o .changes) t)
+
+-- what holds of each refusal before the protocol, and of what the protocol gives to an event on a well-formed table, holds of every call
+pub call-elim : (t e : List ℕ) (P : Called → Type 0) → P (refused 23 t) → (T (not (wellFormed t)) → P (refused 24 t)) → P (refused 10 t) → P (refused 11 t) →
+    (T (isEvent e) → T (wellFormed t) → P (stepped t e)) → P (stepCall t e)
+unfolding stepCall stepOn isEvent
+call-elim t e P no-length ill no-code unused served =
+    cond-elim P (eqb (length t) tableLength && eqb (length e) 32)
+    (λ a. cond-elim P (wellFormed t)
+    (λ w. cond-elim P (codeLawful e)
+    (λ b. cond-elim P (unusedZero e) (λ d. served (yes-and (eqb (length e) 32) (codeLawful e && unusedZero e) (and-yes (eqb (length t) tableLength) (eqb (length e) 32) a .1) (yes-and (codeLawful e) (unusedZero e) b d)) w) (λ d. unused))
+    (λ b. no-code)) ill) (λ a. no-length)
 
 -- ---- run
 

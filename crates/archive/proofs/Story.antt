@@ -11,37 +11,38 @@ use lib.Dec.{T, eqb}
 use lib.ListN.{length}
 use mir.Facts.{T-not, and-yes, yes-and}
 use Rattle.codec.specs.Tabulate.{tabulate}
-use Rattle.codec.proofs.Tests.{cond-elim, yes-eqb}
+use Rattle.codec.proofs.Tests.{yes-eqb}
 use Rattle.codec.proofs.Tabulate.{tab-snoc}
 use Rattle.vector.specs.Vec.{width}
 use Rattle.protocol.specs.Record.{Setting}
 use Rattle.protocol.specs.State.{State, setup}
-use Rattle.protocol.specs.Event.{plain, numberOf}
+use Rattle.protocol.specs.Event.{numberOf}
 use Rattle.protocol.specs.View.{place}
 use Rattle.protocol.specs.Step.{step, next, after, log}
 use Rattle.protocol.specs.Past.{served, history}
 use Rattle.protocol.specs.Causal.{GetCausal}
 use Rattle.protocol.specs.Count.{writtenAt, takenAt, delivered, waiting}
 use Rattle.protocol.proofs.Conserve.{conserved}
-use Rattle.protocol.proofs.Numbers.{no-24}
+use Rattle.protocol.proofs.Numbers.{number-plain, no-24}
 use Rattle.protocol.proofs.Causal as Protocol
 use Rattle.event.specs.Event.{codeLawful, eventOf}
 use Rattle.event.specs.Fields.{unusedZero}
 use Rattle.table.specs.Parts.{tableLength}
 use Rattle.table.specs.Decode.{decode}
-use Rattle.table.specs.Put.{putChanges, fresh}
+use Rattle.table.specs.Put.{fresh}
 use Rattle.lawful.specs.LawfulValues.{settingLawful}
 use Rattle.lawful.specs.WellFormed.{wellFormed}
 use Rattle.lawful.proofs.Facts.{setting-facts}
 use Rattle.lawful.proofs.Steps.{Sound, fresh-sound, fresh-says, step-sound, step-says}
 use Rattle.reader.specs.Pieces.{pieceOf}
-use Rattle.steps.specs.Step.{Called, gives, refused, stepOn}
+use Rattle.steps.specs.Step.{Called, refused, stepOn}
 use Rattle.steps.specs.Run.{pieceAnswered, runBy}
 use Rattle.steps.proofs.Stepped.{cond-yes, cond-not}
 use Rattle.archive.specs.Call.{stepCall, setupCall}
 use Rattle.archive.specs.Run.{piecesOf, runCall}
 use Rattle.archive.specs.Story.{isEvent, eventsOf, tableAfter, linesOf, deliveredOf}
 use Rattle.archive.specs.Promises.{setUp, Faithful, CausalGetBytes, CausalPageBytes, ConservedBytes, NeverIll, RunIsSteps}
+use Rattle.archive.proofs.Calls.{stepped, call-elim}
 
 -- ---- a test that is known
 
@@ -54,9 +55,6 @@ and-unknown true b t = absurd t
 and-unknown false b t = refl
 
 -- ---- one call
-
-abbrev stepped : List ℕ → List ℕ → Called
-stepped t e = gives (step (decode t) (eventOf e) .says) (putChanges (step (decode t) (eventOf e) .changes) t)
 
 pub call-event : (t e : List ℕ) → length t ≡ tableLength → T (wellFormed t) → T (isEvent e) → stepCall t e ≡ stepped t e
 unfolding stepCall stepOn isEvent
@@ -77,21 +75,12 @@ record Turned (t : List ℕ) (c : Called) : Type 0 where
   number : numberOf (c .answer) ≢ 24
 
 turned-by : (t : List ℕ) (n : ℕ) → n ≢ 24 → Turned t (refused n t)
-unfolding plain
-turned-by t n d = record { table = refl; number = d }
+turned-by t n d = record { table = refl; number = rw (number-plain n) d }
 
 step-other : (t e : List ℕ) → Sound tableLength t → T (not (isEvent e)) → Turned t (stepCall t e)
-unfolding stepCall stepOn isEvent
 step-other t e R i =
-    cond-elim (Turned t) (eqb (length t) tableLength && eqb (length e) 32)
-    (λ a. cond-elim (Turned t) (wellFormed t)
-    (λ w. cond-elim (Turned t) (codeLawful e)
-    (λ b. cond-elim (Turned t) (unusedZero e)
-    (λ d. absurd (T-not (isEvent e) (yes-and (eqb (length e) 32) (codeLawful e && unusedZero e) (and-yes (eqb (length t) tableLength) (eqb (length e) 32) a .1) (yes-and (codeLawful e) (unusedZero e) b d)) i))
-    (λ d. turned-by t 11 (omega arith)))
-    (λ b. turned-by t 10 (omega arith)))
-    (λ w. absurd (T-not (wellFormed t) (R .formed) w)))
-    (λ a. turned-by t 23 (omega arith))
+    call-elim t e (Turned t) (turned-by t 23 (omega arith)) (λ w. absurd (T-not (wellFormed t) (R .formed) w)) (turned-by t 10 (omega arith)) (turned-by t 11 (omega arith))
+    (λ j w. absurd (T-not (isEvent e) j i))
 
 pub call-sound : (t e : List ℕ) → Sound tableLength t → Sound tableLength (stepCall t e .table)
 call-sound t e R = go (isEvent e) (λ i. i) (λ i. i)

@@ -2,28 +2,26 @@
 use Prim.Native.Nat.{ℕ, _≤_, _<_}
 use native.Mathlib.Omega.{arith}
 use mathlib.Core.Path.{_≡_, refl, sym, ap, subst, _∙_}
-use mathlib.Core.Logic.{_⊎_}
-use mathlib.Core.Bool.{_&&_}
+use mathlib.Core.Logic.{_≢_, _⊎_}
 use mathlib.Core.List.{List}
-use lib.Dec.{T, eqb}
+use lib.Dec.{T}
 use lib.ListN.{length}
-use mir.Facts.{and-yes, yes-and}
-use Rattle.codec.proofs.Tests.{cond-elim}
 use Rattle.protocol.specs.declared.Answer.{Answer}
-use Rattle.protocol.specs.Event.{plain, valuesOf, numberOf}
+use Rattle.protocol.specs.Event.{valuesOf, numberOf}
 use Rattle.protocol.specs.Step.{step}
 use Rattle.protocol.specs.Waits.{heardAt, clockAt, WaitsFor}
+use Rattle.protocol.proofs.Numbers.{number-plain}
 use Rattle.protocol.proofs.Waits.{names-what-is-short, named-exists, reads-go-on, puts-go-on}
-use Rattle.event.specs.Event.{codeLawful, eventOf}
-use Rattle.event.specs.Fields.{unusedZero}
+use Rattle.event.specs.Event.{eventOf}
 use Rattle.table.specs.Parts.{tableLength}
 use Rattle.table.specs.Decode.{settingIn, decode}
 use Rattle.lawful.specs.WellFormed.{wellFormed}
 use Rattle.lawful.proofs.Facts.{formed, says-lawful}
-use Rattle.steps.specs.Step.{Called, stepOn}
+use Rattle.steps.specs.Step.{Called, refused}
 use Rattle.archive.specs.Call.{stepCall}
 use Rattle.archive.specs.Story.{isEvent}
 use Rattle.archive.specs.Promises.{WaitsBytes, ReadsGoOnBytes, PutsGoOnBytes}
+use Rattle.archive.proofs.Calls.{call-elim}
 use Rattle.archive.proofs.Story.{call-event}
 
 module _ (t e : List ℕ) where
@@ -34,24 +32,13 @@ module _ (t e : List ℕ) where
 
   -- a call that waits was judged by the protocol
   judged : numberOf (stepCall t e .answer) ≡ 3 → Judged (stepCall t e)
-  unfolding stepCall stepOn isEvent plain
-  judged =
-      cond-elim P (eqb (length t) tableLength && eqb (length e) 32)
-      (λ a. cond-elim P (wellFormed t)
-      (λ w. cond-elim P (codeLawful e)
-      (λ b. cond-elim P (unusedZero e)
-      (λ d z. record {
-        event = yes-and (eqb (length e) 32) (codeLawful e && unusedZero e) (and-yes (eqb (length t) tableLength) (eqb (length e) 32) a .1) (yes-and (codeLawful e) (unusedZero e) b d);
-        formed = w;
-        says = refl;
-      })
-      (λ d z. absurd (omega arith)))
-      (λ b z. absurd (omega arith)))
-      (λ w z. absurd (omega arith)))
-      (λ a z. absurd (omega arith))
+  judged = call-elim t e P (other 23 (omega arith)) (λ w. other 24 (omega arith)) (other 10 (omega arith)) (other 11 (omega arith)) (λ i w z. record { event = i; formed = w; says = refl })
     where
       P : Called → Type 0
       P c = numberOf (c .answer) ≡ 3 → Judged c
+
+      other : (n : ℕ) → n ≢ 3 → P (refused n t)
+      other n d z = absurd (d (sym (number-plain n) ∙ z))
 
 pub waits-bytes : WaitsBytes
 unfolding decode

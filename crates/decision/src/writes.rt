@@ -1,13 +1,13 @@
 // The decisions of the four events that write to nodes: CLOCK, BEAT, PUT and DELIVER. In order: room, and an event each.
 ghost use mathlib.Core.Path.{_≡_};
-ghost use Prim.Native.Nat.{_-_, _≤_, _<_};
+ghost use Prim.Native.Nat.{_-_, _≤_, _<_, max};
 ghost use lib.Dec.{T, ltb};
 ghost use Rattle.codec.specs.Le.{load};
 ghost use Rattle.codec.specs.Below.{allBelow};
+ghost use Rattle.vector.specs.Vec.{largest};
 ghost use Rattle.vector.specs.Entries.{entry};
 ghost use Rattle.vector.specs.Meaning.{asVec};
 ghost use Rattle.protocol.specs.Event.{CLOCK, BEAT, PUT, DELIVER};
-ghost use Rattle.protocol.specs.Needs.{toPass};
 ghost use Rattle.parts.specs.Node.{heardIn, heldIn};
 ghost use Rattle.parts.specs.Channel.{waitIn};
 ghost use Rattle.table.specs.Parts.{Long, siteOf, nodeOf, channelOf};
@@ -96,7 +96,7 @@ pub fn beat(t: &[u8], m: u8, p: u8) -> Decided
 // R45: the stamp that the clock of node (m, p) must pass, for a session with vector v: the largest of v's entries and the node's own entry.
 fn to_pass(t: &[u8], m: u8, p: u8, v: Vector) -> u64
     requires { ⌜ Long (now t) × (m < 4) × (p < 4) ⌝ }
-    ensures { λ r. ⌜ r ≡ toPass (asVec v) (heardIn (nodeOf (siteOf (now (t .entry)) m) p) m) ⌝ }
+    ensures { λ r. ⌜ r ≡ max (largest (asVec v)) (heardIn (nodeOf (siteOf (now (t .entry)) m) p) m) ⌝ }
 {
     let seen = v.largest();
     let latest = own(t, m, p);

@@ -11,7 +11,7 @@ use lib.ListN.{length}
 use mir.Facts.{and-yes, ltb-yes, leb-yes, yes-ltb, yes-leb}
 use Rattle.codec.specs.Tests.{every}
 use Rattle.codec.proofs.Tests.{implies, yes-implies, every-yes, yes-every}
-use Rattle.vector.proofs.Entries.{Short}
+use Rattle.vector.proofs.Entries.{Narrow}
 use Rattle.protocol.specs.Record.{Setting, Rec, Msg}
 use Rattle.protocol.specs.Times.{timeLimit}
 use Rattle.protocol.specs.State.{Mark, Page, Session, State}
@@ -41,7 +41,7 @@ module _ (c : Setting) (g : Page) where
   abbrev some-keys : Bool
   some-keys = every (ltb 0 (length (g .marks)) ∷ keysLawful (keysOf (g .marks)) ∷ distinct (keysOf (g .marks)) ∷ [])
 
-  pub page-facts : T (pageLawful c g) → FitsMarks (g .marks) → Short (g .vec) → Short (g .gathered) → LawfulPage c g
+  pub page-facts : T (pageLawful c g) → FitsMarks (g .marks) → Narrow (g .vec) → Narrow (g .gathered) → LawfulPage c g
   unfolding pageLawful
   page-facts t keys short short′ =
       let (few, (used, (vec, (gathered, _)))) = every-yes _ t in
@@ -69,7 +69,7 @@ pub record LawfulSession (c : Setting) (x : Session) : Type 0 where
   pub page : LawfulPage c (x .page)
 
 module _ (c : Setting) (x : Session) where
-  pub session-facts : T (sessionLawful c x) → x .site < 256 → Short (x .vec) → (T (pageLawful c (x .page)) → LawfulPage c (x .page)) → LawfulSession c x
+  pub session-facts : T (sessionLawful c x) → x .site < 256 → Narrow (x .vec) → (T (pageLawful c (x .page)) → LawfulPage c (x .page)) → LawfulSession c x
   unfolding sessionLawful
   session-facts t site short page =
       let (here, (vec, (lawful, _))) = every-yes _ t in

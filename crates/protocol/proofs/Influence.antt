@@ -1,6 +1,6 @@
 -- What may influence a step, and that a refusal changes nothing. In order: what a step sees of its view and of a state, `influenced`; `refused-still`
 -- and `untouched`.
-use Prim.Native.Nat.{ℕ, zero, suc, _<_}
+use Prim.Native.Nat.{ℕ, _<_}
 use native.Mathlib.Nat.{mod-mod, mod-eq-of-lt}
 use native.Mathlib.Omega.{arith}
 use mathlib.Core.Path.{_≡_, refl, sym, ap, _∙_}
@@ -11,7 +11,7 @@ use lib.Dec.{T, ltb}
 use lib.ListN.{length}
 use mir.Facts.{ltb-yes}
 use borrow.Author.Tests.{lt-ltb}
-use Rattle.codec.specs.Below.{allBelow}
+use Rattle.codec.proofs.Below.{allBelow-ext}
 use Rattle.vector.specs.Vec.{zeros}
 use Rattle.protocol.specs.Record.{Setting, partitionOf, Rec, Msg}
 use Rattle.protocol.specs.State.{Net, Session, State, closed}
@@ -50,18 +50,13 @@ part-key c k = mod-mod k (c .partitions)
 part-named : (c : Setting) (p : ℕ) → T (ltb p (c .partitions)) → partitionOf c p ≡ p
 part-named c p t = mod-eq-of-lt (ltb-yes t)
 
-all-same : (n : ℕ) (f g : ℕ → Bool) → ((i : ℕ) → i < n → f i ≡ g i) → allBelow n f ≡ allBelow n g
-unfolding allBelow
-all-same zero f g h = refl
-all-same (suc n) f g h = rw (all-same n f g (λ i l. h i (omega arith)), h n (omega arith))
-
 module _ (v : View) where
   abbrev c : Setting
   c = v .setting
 
   send-within : (m p : ℕ) → partitionOf c p ≡ p → sendRoom v m p ≡ sendRoom (within v) m p
   unfolding sendRoom
-  send-within m p e = all-same (c .sites) _ _ (λ j l. rw (e, lt-ltb j (c .sites) l))
+  send-within m p e = allBelow-ext (c .sites) _ _ (λ j l. rw (e, lt-ltb j (c .sites) l))
 
   judged-within : (e : Event) → Met (ranges c e) → judged v e ≡ judged (within v) e
   unfolding judged judge needs serve ranges

@@ -1,15 +1,15 @@
 -- What is decided of each event whose fields are in range, as a ladder of tests from top to bottom: `judged` is opened here, and the crates above
 -- use these laws. In order: events of a session, then of a site, then DELIVER.
-use Prim.Native.Nat.{ℕ}
+use Prim.Native.Nat.{ℕ, max}
 use native.Mathlib.Omega.{arith}
 use mathlib.Core.Path.{_≡_, refl}
 use mathlib.Core.Bool.{Bool, true, false, cond, not, _&&_, _||_}
 use mathlib.Core.List.{List, [], _∷_}
-use lib.Dec.{leb}
+use lib.Dec.{leb, ltb}
 use lib.ListN.{length}
 use lib.IntN.{ℤ}
 use borrow.Author.Tests.{lt-ltb}
-use Rattle.vector.specs.Vec.{firstShort, firstShortBut, larger, withEntry}
+use Rattle.vector.specs.Vec.{atMost, atMostBut, firstShort, firstShortBut, largest, larger, withEntry}
 use Rattle.protocol.specs.Record.{partitionOf, Msg, Update, Heartbeat, ofKey, fitsPage, raisedBy}
 use Rattle.protocol.specs.Shelf.{found}
 use Rattle.protocol.specs.State.{Session, noPage, closed, opened, withVec, withPage}
@@ -74,10 +74,10 @@ module _ (v : View) where
       let p = partitionOf (v .setting) k in
       let o = found (v .setting) (ofKey k) (v .store p) in
       let short = firstShortBut (x .site) (x .vec) (v .heard p) in
-      ifNoPage x (cond (getReady (x .site) (v .heard p) (x .vec)) (keeps (shown o) s (withVec x (raisedBy (x .vec) o))) (wait short (x .vec short)))
+      ifNoPage x (cond (atMostBut (x .site) (x .vec) (v .heard p)) (keeps (shown o) s (withVec x (raisedBy (x .vec) o))) (wait short (x .vec short)))
 
   pub get-judged : (s k : ℕ) → judged v (GET s k) ≡ getOf s k
-  unfolding judged judge needs serve
+  unfolding judged judge needs serve getReady
   get-judged s k = refl
 
   -- where the stamp is t
@@ -88,12 +88,12 @@ module _ (v : View) where
   abbrev pub putAt : (s k q : ℕ) (l : ℤ) (p : ℕ) (slot room : Bool) → Outcome
   putAt s k q l p slot room =
       let own = v .heard p (x .site) in
-      cond slot (cond room (cond (putReady (x .vec) own (v .clock p)) (stampedBy s k q l p (v .clock p)) (wait (x .site) (toPass (x .vec) own))) (refuse 21)) (refuse 22)
+      cond slot (cond room (cond (ltb (max (largest (x .vec)) own) (v .clock p)) (stampedBy s k q l p (v .clock p)) (wait (x .site) (max (largest (x .vec)) own))) (refuse 21)) (refuse 22)
 
   pub put-judged : (s k q : ℕ) (l : ℤ) →
       let p = partitionOf (v .setting) k in
       judged v (PUT s k q l) ≡ ifNoPage x (putAt s k q l p (storeRoom (v .store p)) (sendRoom v (x .site) p))
-  unfolding judged judge needs serve
+  unfolding judged judge needs serve putReady toPass
   put-judged s k q l = refl
 
   abbrev pub beginOf : (s p : ℕ) (ks : List ℕ) → Outcome
@@ -109,10 +109,10 @@ module _ (v : View) where
       let g = x .page in
       let o = found (v .setting) (fitsPage k (g .vec)) (v .store p) in
       let short = firstShort (g .vec) (v .heard p) in
-      ifPage x (cond (awaited k (g .marks)) (cond (readReady (v .heard p) (g .vec)) (keeps (shown o) s (withPage x (readOn g k o))) (wait short (g .vec short))) (refuse 16))
+      ifPage x (cond (awaited k (g .marks)) (cond (atMost (g .vec) (v .heard p)) (keeps (shown o) s (withPage x (readOn g k o))) (wait short (g .vec short))) (refuse 16))
 
   pub read-judged : (s k : ℕ) → judged v (READ s k) ≡ readOf s k
-  unfolding judged judge needs serve
+  unfolding judged judge needs serve readReady
   read-judged s k = refl
 
   abbrev pub endOf : (s : ℕ) → Outcome

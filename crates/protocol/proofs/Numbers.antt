@@ -10,13 +10,17 @@ use mir.Facts.{T-not, and-yes}
 use Rattle.codec.proofs.Tests.{cond-elim}
 use Rattle.protocol.specs.Record.{Setting}
 use Rattle.protocol.specs.State.{State}
-use Rattle.protocol.specs.Event.{Event, OPEN, CLOSE, CLOCK, GET, PUT, BEGIN, READ, END, BEAT, DELIVER, Answer, Done, Stamped, Value, Nothing, Refused, plain, waitFor, numberOf}
+use Rattle.protocol.specs.Event.{Event, OPEN, CLOSE, CLOCK, GET, PUT, BEGIN, READ, END, BEAT, DELIVER, Answer, Done, Stamped, Value, Nothing, Refused, plain, numberOf}
 use Rattle.protocol.specs.View.{View, view}
 use Rattle.protocol.specs.Needs.{Need, ranges, needs}
 use Rattle.protocol.specs.Serve.{Outcome, serve}
 use Rattle.protocol.specs.Step.{judge, judged, decide, step}
 use Rattle.protocol.proofs.Judge.{Met}
 use Rattle.protocol.proofs.Influence.{Unserved, serve-is-served}
+
+pub number-plain : (n : ℕ) → numberOf (Refused (plain n)) ≡ n
+unfolding plain
+number-plain n = refl
 
 -- no need is refused with a number of the test
 unfoldable pub without : (ℕ → Bool) → List Need → Bool
@@ -68,7 +72,7 @@ unfoldable isAround : ℕ → Bool
 isAround n = eqb n 10 || eqb n 23 || eqb n 24
 
 needs-own : (c : Setting) (v : View) (e : Event) → T (without isAround (ranges c e)) × T (without isAround (needs v e))
-unfolding isAround without ranges needs plain waitFor
+unfolding isAround without ranges needs plain
 needs-own c v (OPEN s m) = (tt, tt)
 needs-own c v (CLOSE s) = (tt, tt)
 needs-own c v (CLOCK m p t) = (tt, tt)

@@ -20,7 +20,7 @@ answers (l ∷ ls) = l .says ∷ answers ls
 
 -- a proof that unfolds this lets the checker compute whole runs
 unfoldable pub computing : Unit {0}
-unfolding answers log step decide judge judged next serve needs ranges allBelow firstNot atMost atMostBut firstShort firstShortBut largestOf largest withEntry atLeast larger raised stampIn recordsIn rank newer newerOf newest ofKey fitsPage raisedBy noPage closed opened setup plain waitFor shown levelLawful keysLawful getReady toPass putReady readReady beatSends storeRoom sendRoom frontUpdates distinct awaited allRead shelve found upd at setClock publish receive apply applyAll written unread markRead begun readOn taken
+unfolding answers log step decide judge judged next serve needs ranges allBelow firstNot atMost atMostBut firstShort firstShortBut largestOf largest withEntry atLeast larger raised stampIn recordsIn rank newer newerOf newest ofKey fitsPage raisedBy noPage closed opened setup plain shown levelLawful keysLawful getReady toPass putReady readReady beatSends storeRoom sendRoom frontUpdates distinct awaited allRead shelve found upd at setClock publish receive apply applyAll written unread markRead begun readOn taken
 computing = tt
 
 abbrev pub refused : ℕ → Answer

@@ -163,7 +163,7 @@ module _ (S : State) (s k : ℕ) where
     Unready o = let b = numberOf (o .says) in (b ≡ 3) ⊎ ((b ≡ 21) ⊎ (b ≡ 22))
 
     put-unready : Met putRanges → Met getNeeds → T (not (putWaits .holds)) → Unready (step S (PUT s k q l))
-    unfolding judge plain waitFor
+    unfolding judge plain
     put-unready r n f =
         subst Unready
         (sym (put-by-last ∙ judge-met putRanges (judge putNeeds (judge (putWaits ∷ []) put)) r ∙ judge-met getNeeds (judge (slot else 22 ∷ room else 21 ∷ putWaits ∷ []) put) n))
@@ -180,7 +180,7 @@ no-wait : (S : State) (e : Event) → T (without isWait (ranges (view S e .setti
 no-wait S e r n z = T-not (isWait (numberOf (step S e .says))) (yes-eqb _ 3 z) (step-free isWait S e tt tt tt r n)
 
 pub names-what-is-short : Waits
-unfolding WaitsFor without ranges needs plain waitFor getReady readReady putReady toPass
+unfolding WaitsFor without ranges needs plain getReady readReady putReady toPass
 names-what-is-short S (OPEN s m) e = no-wait S (OPEN s m) tt tt e
 names-what-is-short S (CLOSE s) e = no-wait S (CLOSE s) tt tt e
 names-what-is-short S (CLOCK m p t) e = no-wait S (CLOCK m p t) tt tt e
@@ -245,7 +245,7 @@ module _ (S R : State) (s k : ℕ) (L : SameSession S R s) where
   still P h = subst P (sym (L .session)) h
 
   get-goes-on : GoesOn S R s k (GET s k)
-  unfolding WaitsFor getReady waitFor
+  unfolding WaitsFor getReady
   get-goes-on e l =
       let g = get-fails S s k e in
       let w = names-what-is-short S (GET s k) e in
@@ -256,7 +256,7 @@ module _ (S R : State) (s k : ℕ) (L : SameSession S R s) where
       ap (λ o. numberOf (o .says)) (get-by-last R s k ∙ still-fails (getRanges R s k) (getNeeds R s k) (getWaits R s k) _ (g .fields) (still (λ z. T (z .isOpen) × (T (not (z .page .isOpen)) × Unit {0})) (g .before)) f)
 
   read-goes-on : GoesOn S R s k (READ s k)
-  unfolding WaitsFor readReady waitFor
+  unfolding WaitsFor readReady
   read-goes-on e l =
       let g = read-fails S s k e in
       let w = names-what-is-short S (READ s k) e in

@@ -28,7 +28,7 @@ unfoldable pub plain : ℕ → Refusal
 plain n = record { number = n; source = 0; stamp = 0 }
 
 -- a wait, for this site and this stamp (R51)
-unfoldable pub waitFor : (site stamp : ℕ) → Refusal
+abbrev pub waitFor : (site stamp : ℕ) → Refusal
 waitFor m t = record { number = 3; source = m; stamp = t }
 
 unfoldable pub shown : Option Rec → Answer

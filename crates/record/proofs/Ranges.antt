@@ -13,7 +13,7 @@ use Rattle.codec.specs.Level.{FitsLevel}
 use Rattle.codec.proofs.Tests.{cond-elim, every-yes, yes-every}
 use Rattle.codec.proofs.Below.{all-below-at, all-below}
 use Rattle.vector.specs.Vec.{Vec, width, zeros, withEntry, atLeast, larger, raised}
-use Rattle.vector.proofs.Entries.{Short}
+use Rattle.vector.proofs.Entries.{Narrow}
 use Rattle.protocol.specs.Record.{Setting, partitionOf, Rec, Msg, Update, Heartbeat, stampIn}
 use Rattle.protocol.specs.Times.{topOf}
 use Rattle.protocol.specs.Needs.{levelLawful}
@@ -35,7 +35,7 @@ entry-facts c i x t = go (decLt i (c .sites))
     go (yes l) = (ltb-yes (rw (lt-ltb i (c .sites) l) at t), λ h. absurd (omega arith))
     go (no l) = let e : x ≡ 0 = eqb-yes (rw (le-ltb i (c .sites) (omega arith)) at t) in (omega (arith, time-below-top c), λ h. e)
 
-pub vec-facts : (c : Setting) (v : Vec) → T (vecLawful c v) → Short v → LawfulVec c v
+pub vec-facts : (c : Setting) (v : Vec) → T (vecLawful c v) → Narrow v → LawfulVec c v
 unfolding vecLawful
 vec-facts c v t short = record { below = λ i. facts i .0; beyond = λ i. facts i .1 }
   where
@@ -101,7 +101,7 @@ pub record LawfulRec (c : Setting) (p : ℕ) (r : Rec) : Type 0 where
   pub carried : LawfulVec c (r .carried)
 
 module _ (c : Setting) (p : ℕ) (r : Rec) where
-  pub record-facts : T (recordLawful c p r) → Short (r .carried) → LawfulRec c p r
+  pub record-facts : T (recordLawful c p r) → Narrow (r .carried) → LawfulRec c p r
   unfolding recordLawful recordInRange stampLawful
   record-facts t short =
       let both = and-yes (eqb (partitionOf c (r .id .key)) p) (recordInRange c r) t in
@@ -140,12 +140,12 @@ LawfulMsg c i p (Update r) = (r .id .source ≡ i) × LawfulRec c p r
 LawfulMsg c i p (Heartbeat t) = t < topOf c
 
 -- the vector that a message carries, if it does, has no entry beyond the width
-abbrev pub ShortMsg : Msg → Type 0
-ShortMsg (Update r) = Short (r .carried)
-ShortMsg (Heartbeat t) = Unit {0}
+abbrev pub NarrowMsg : Msg → Type 0
+NarrowMsg (Update r) = Narrow (r .carried)
+NarrowMsg (Heartbeat t) = Unit {0}
 
 module _ (c : Setting) (i p : ℕ) where
-  pub message-facts : (x : Msg) → T (messageLawful c i p x) → ShortMsg x → LawfulMsg c i p x
+  pub message-facts : (x : Msg) → T (messageLawful c i p x) → NarrowMsg x → LawfulMsg c i p x
   unfolding messageLawful stampLawful
   message-facts (Update r) t short =
       let a = and-yes (eqb (r .id .source) i) (recordLawful c p r) t in (eqb-yes (a .0), record-facts c p r (a .1) short)

@@ -26,7 +26,7 @@ use Rattle.record.specs.RecordBytes.{recordAt, messageAt, putRecord, bea
 use Rattle.record.specs.Ranges.{recordLawful, messageLawful}
 use Rattle.record.specs.RecordFormed.{recordFormed, heartbeatFormed, messageFormed}
 use Rattle.record.proofs.RecordBytes.{Same, loadVec-ext, record-ext, message-ext, kind-put, record-putRecord, beat-fits, message-putMessage}
-use Rattle.record.proofs.Ranges.{LawfulRec, record-lawful, record-fits, LawfulMsg, message-lawful, message-fits, ShortMsg, record-facts, message-facts}
+use Rattle.record.proofs.Ranges.{LawfulRec, record-lawful, record-fits, LawfulMsg, message-lawful, message-fits, NarrowMsg, record-facts, message-facts}
 
 -- ---- equal bytes are formed alike
 
@@ -117,9 +117,9 @@ unfolding recordFormed recordAt
 record-read c p n at t =
     record-facts c p (recordAt n at) (and-yes (eqb (load 1 n (at + 3)) 1) (recordLawful c p (recordAt n at)) t .1) (loadVec-beyond n (at + 16))
 
-short-read : (b : List ℕ) (at : ℕ) → ShortMsg (messageAt b at)
+short-read : (b : List ℕ) (at : ℕ) → NarrowMsg (messageAt b at)
 unfolding messageAt recordAt
-short-read b at = cond-elim ShortMsg (eqb (load 1 b (at + 3)) 1) (λ e. loadVec-beyond b (at + 16)) (λ e. tt)
+short-read b at = cond-elim NarrowMsg (eqb (load 1 b (at + 3)) 1) (λ e. loadVec-beyond b (at + 16)) (λ e. tt)
 
 pub message-read : (c : Setting) (i p : ℕ) (b : List ℕ) (at : ℕ) → T (messageFormed c i p b at) → LawfulMsg c i p (messageAt b at)
 unfolding messageFormed

@@ -3,12 +3,12 @@ use mathlib.Core.Path.{_≡_, sym, ap, _∙_}
 use mathlib.Core.Bool.{true}
 use borrow.Author.Tests.{not-true, not-false}
 use borrow.Author.Needs.{needs}
+use Rattle.vector.specs.Vec.{atMost}
 use Rattle.vector.specs.Meaning.{asVec}
 use Rattle.vector.proofs.Entries.{atMostBut-none, firstShortBut-none}
 use Rattle.protocol.specs.Record.{fitsPage}
 use Rattle.protocol.specs.Shelf.{found}
 use Rattle.protocol.specs.Event.{READ}
-use Rattle.protocol.specs.Needs.{readReady}
 use Rattle.protocol.proofs.Ladders.{if-page, readOf}
 use Rattle.parts.specs.Meaning.{asSession}
 use Rattle.search.specs.Found.{foundOf}
@@ -49,8 +49,8 @@ hears c = c .heard .ensures ∙ rw (c .before .partition .ensures .0)
 ready : (c : tie.After-at-most) → let k = loaded (c .before .before .before) in
     let x = k .session .result in
     let a = k .before .before .args in
-    c .at-most .result ≡ readReady (heardBy (a .t .now) (x .site) (a .k)) (asVec (x .snapshot))
-unfolding readReady loaded
+    c .at-most .result ≡ atMost (asVec (x .snapshot)) (heardBy (a .t .now) (x .site) (a .k))
+unfolding loaded
 ready c = c .at-most .ensures ∙ rw (hears (c .before))
 
 -- and what is found the newest of its records that fit the page

@@ -3,11 +3,11 @@ use mathlib.Core.Path.{_≡_, sym, _∙_}
 use mathlib.Core.Bool.{true}
 use borrow.Author.Tests.{not-true, not-false}
 use borrow.Author.Needs.{needs}
+use Rattle.vector.specs.Vec.{atMostBut}
 use Rattle.vector.specs.Meaning.{asVec}
 use Rattle.protocol.specs.Record.{ofKey}
 use Rattle.protocol.specs.Shelf.{found}
 use Rattle.protocol.specs.Event.{GET}
-use Rattle.protocol.specs.Needs.{getReady}
 use Rattle.protocol.proofs.Ladders.{if-no-page, getOf}
 use Rattle.parts.specs.Meaning.{asSession}
 use Rattle.search.specs.Found.{foundOf}
@@ -45,8 +45,8 @@ hears c = c .heard .ensures ∙ rw (c .before .partition .ensures .0)
 ready : (c : tie.After-at-most-but) → let k = loaded (c .before .before .before) in
     let x = k .session .result in
     let a = k .before .before .args in
-    c .at-most-but .result ≡ getReady (x .site) (heardBy (a .t .now) (x .site) (a .k)) (asVec (x .vec))
-unfolding getReady loaded
+    c .at-most-but .result ≡ atMostBut (x .site) (asVec (x .vec)) (heardBy (a .t .now) (x .site) (a .k))
+unfolding loaded
 ready c = c .at-most-but .ensures ∙ rw (hears (c .before))
 
 -- and what is found the newest of its records

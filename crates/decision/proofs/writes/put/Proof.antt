@@ -11,7 +11,6 @@ use borrow.Author.Tests.{not-true, not-false, lt-ltb, le-ltb}
 use Rattle.codec.specs.Le.{load}
 use Rattle.protocol.specs.Record.{partitionOf}
 use Rattle.protocol.specs.Event.{PUT}
-use Rattle.protocol.specs.Needs.{putReady}
 use Rattle.protocol.proofs.Ladders.{wait, stampedBy, putAt}
 use Rattle.parts.specs.Node.{heldIn}
 use Rattle.parts.specs.Meaning.{asSession}
@@ -125,7 +124,7 @@ by-clock : (c : tie.After-clock) →
     let a = p .before .before .before .before .before .before .args in
     answered (decode (a .t .now)) (PUT (a .s) (a .key) (a .quality) (a .level))
     ≡ cond (ltb (g .to-pass .result) (c .clock .result)) (stampedBy (seenBy (a .t .now) (asSession x)) (a .s) (a .key) (a .quality) (a .level) (p .partition .result) (c .clock .result)) (wait (x .site) (g .to-pass .result))
-unfolding roomy putReady
+unfolding roomy
 by-clock c =
     let g = c .before .before in
     let r = g .before .before .before in

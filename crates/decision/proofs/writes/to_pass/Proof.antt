@@ -1,7 +1,6 @@
 -- `decision::writes::to_pass` meets its contract.
 use Prim.Native.Nat.{max}
 use mathlib.Core.Path.{ap₂, _∙_}
-use Rattle.protocol.specs.Needs.{toPass}
 use Rattle.decision.proofs.writes.to_pass.Statement.{statement}
 use Rattle.decision.proofs.writes.to_pass.Tie as tie
 use borrow.Author.Needs.{needs}
@@ -16,7 +15,6 @@ later-requires : tie.Need-later-requires
 later-requires c κs = search needs
 
 returns : tie.Need-returns
-unfolding toPass
 returns c = c .later .ensures ∙ ap₂ max (c .before .before .largest .ensures) (c .before .own .ensures)
 
 pub to-pass-spec : {M : Type 1} → statement M

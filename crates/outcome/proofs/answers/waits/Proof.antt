@@ -1,5 +1,4 @@
 -- `outcome::answers::waits` meets its contract.
-use Rattle.protocol.specs.Event.{waitFor}
 use Rattle.outcome.proofs.answers.waits.Statement.{statement}
 use Rattle.outcome.proofs.answers.waits.Tie as tie
 use borrow.Author.Needs.{needs}
@@ -8,7 +7,6 @@ turned-away-requires : tie.Need-turned-away-requires
 turned-away-requires c κs = search needs
 
 returns : tie.Need-returns
-unfolding waitFor
 returns c = c .turned-away .ensures
 
 pub waits-spec : {M : Type 1} → statement M
