@@ -23,8 +23,8 @@ extern "C" {
 
 /* ---- the version of this header */
 
-#define LEVEL_ARCHIVE_VERSION "0.2.0"
-#define LEVEL_ARCHIVE_VERSION_NUMBER 200 /* 10,000 major + 100 minor + patch */
+#define LEVEL_ARCHIVE_VERSION "0.3.0"
+#define LEVEL_ARCHIVE_VERSION_NUMBER 300 /* 10,000 major + 100 minor + patch */
 
 /* ---- lengths and limits */
 
@@ -173,6 +173,9 @@ static inline void level_archive_told(char text[LEVEL_ARCHIVE_TOLD_BYTES],
  * touches them during the call, and the table and the answers overlap nothing. A null
  * pointer is fine with length 0 alone. There is no state beside the table: calls on
  * different tables may run at once.
+ *
+ * A table that a version before 0.3.0 left keeps no newest records: if it holds a
+ * record, it is refused with 24.
  */
 
 /* Makes a table empty, whatever lay in it, for 1 to 4 sites and partitions. 0, 23 or 11. */

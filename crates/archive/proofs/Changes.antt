@@ -1,34 +1,39 @@
 -- Each of the four changes writes the same bytes at the same places of two tables that agree on what it looks at. In order: what is done to a node, to
--- a channel, to a site that sends; what a change looks at (`Seen`), and the numbers found there; each change, and many.
+-- a channel, to a site that sends; what a change looks at (`Seen`), and the numbers found there; each change but for the kept places; the kept places; any
+-- change, and many.
 use Prim.Native.Nat.{ℕ, zero, suc, _+_, _*_, _-_, _%_, _≤_, _<_, max}
 use native.Mathlib.Omega.{arith}
-use mathlib.Core.Path.{_≡_, sym, ap, _∙_}
-use mathlib.Core.List.{List, [], _∷_}
+use mathlib.Core.Path.{_≡_, refl, sym, ap, _∙_}
+use mathlib.Core.Logic.{inr}
+use mathlib.Core.List.{List, [], _∷_, _++_}
 use lib.ListN.{length}
 use Rattle.codec.specs.Le.{load, put}
 use Rattle.codec.specs.Part.{Keeps}
 use Rattle.codec.proofs.Le.{load-put-other}
 use Rattle.vector.proofs.Entries.{loadVec-below}
-use Rattle.protocol.specs.Record.{Msg, Update, Heartbeat, stampIn}
+use Rattle.protocol.specs.Record.{Msg, Update, Heartbeat, stampIn, recordsIn}
 use Rattle.protocol.specs.State.{Session}
 use Rattle.protocol.specs.Promises.{SiteAlike}
 use Rattle.protocol.specs.Change.{Change, SetSession, SetClock, Publish, Receive}
-use Rattle.parts.specs.Node.{heardIn, heldIn, slotAt, clockSet, stored, published, received}
+use Rattle.parts.specs.Node.{heardIn, heldIn, storeIn, slotAt, clockSet, stored, published, received}
 use Rattle.parts.specs.Channel.{ringAt, frontIn, waitIn, pushed, popped}
 use Rattle.parts.specs.Session.{putSession}
 use Rattle.parts.proofs.Lengths.{length-putSession, length-clockSet, length-published, length-received, length-pushed, length-popped}
-use Rattle.table.specs.Parts.{Long, placeOf, sessionOf, siteOf, nodeOf, channelOf, onSession, onSite, onNode, onChannel}
+use Rattle.search.specs.Kept.{placesIn}
+use Rattle.search.proofs.Kept.{length-places, places-same}
+use Rattle.table.specs.Parts.{Long, Whole, keptAt, placeOf, sessionOf, siteOf, nodeOf, channelOf, onSession, onSite, onNode, onChannel, onKept}
 use Rattle.table.specs.Decode.{settingIn, decode}
-use Rattle.table.specs.Put.{sentTo, publishedOn, putChange, putChanges}
+use Rattle.table.specs.Put.{sentTo, publishedOn, putCore, keptAnew, keptAfter, putChange, putChanges}
 use Rattle.table.specs.Fits.{FitsPublish, FitsReceive, Fits, FitsAll}
-use Rattle.table.proofs.Parts.{long-still, length-session, length-site, length-node, length-channel, length-onSite, length-onNode, channel-onNode, length-nodeOf, length-channelOf}
+use Rattle.table.proofs.Parts.{long-still, whole-still, length-session, length-site, length-node, length-channel, length-onSite, length-onNode, channel-onNode, length-nodeOf, length-channelOf}
 use Rattle.table.proofs.Changes.{place-lt, onNode-keeps, channel-atNode, onChannel-keeps, publishedOn-keeps}
 use Rattle.table.proofs.Sent.{length-sent, channel-sent}
-use Rattle.table.proofs.Decode.{length-putChange}
+use Rattle.table.proofs.Decode.{length-putCore, setting-core, length-putChange}
+use Rattle.table.proofs.Follows.{published-store, received-store}
 use Rattle.lawful.proofs.Facts.{store-length}
 use Rattle.lawful.proofs.Fits.{other-at, chan-length}
-use Rattle.archive.specs.Influence.{NextAlike}
-use Rattle.archive.proofs.Writes.{Twin, Both, twin-none, twin-then, twin-put, twin-putRecord, twin-putMessage, twin-putSession, twin-onSession, twin-onSite, twin-onNode, twin-onChannel}
+use Rattle.archive.specs.Influence.{NextAlike, SameWrites}
+use Rattle.archive.proofs.Writes.{Twin, Both, twin-none, twin-then, twin-put, twin-putRecord, twin-putMessage, twin-putSession, twin-onSession, twin-onSite, twin-onNode, twin-onChannel, twin-onPart}
 
 -- ---- a node
 
@@ -196,7 +201,7 @@ module _ (t u : List ℕ) (l : Long t) (l′ : length u ≡ length t) where
         twin-onSite (onChannel p d f) t u l l′ m h (onChannel-keeps t m p d f l h g b keeps)
         (twin-onChannel f (siteOf t m) (siteOf u m) p (length-site t m l h) (length-site u m as-long h) g d b keeps a .writes)
 
--- ---- the changes
+-- ---- the changes, but for the kept places
 
 module _ (t u : List ℕ) (l : Long t) (l′ : length u ≡ length t) where
   twin-clock : (m p c : ℕ) → m < 4 → p < 4 → Twin t (onSite m (onNode p (clockSet c)) t) u (onSite m (onNode p (clockSet c)) u)
@@ -205,8 +210,8 @@ module _ (t u : List ℕ) (l : Long t) (l′ : length u ≡ length t) where
       twin-atNode t u l l′ (clockSet c) m p h g (λ n e. length-clockSet c n ∙ e)
       (twin-put 8 0 c (twin-none (nodeOf (siteOf t m) p) (nodeOf (siteOf u m) p) (same-node t u l l′ m p h g)) .writes)
 
-  twin-publish : (m p : ℕ) (x : Msg) → FitsPublish m p x t → Seen (Publish m p x) t u → Twin t (putChange (Publish m p x) t) u (putChange (Publish m p x) u)
-  unfolding putChange
+  twin-publish : (m p : ℕ) (x : Msg) → FitsPublish m p x t → Seen (Publish m p x) t u → Twin t (putCore (Publish m p x) t) u (putCore (Publish m p x) u)
+  unfolding putCore
   twin-publish m p x fit seen =
       let a = seen .0 in
       let n = load 1 t 0 - 1 in
@@ -218,8 +223,8 @@ module _ (t u : List ℕ) (l : Long t) (l′ : length u ≡ length t) where
       (λ d c. same-next t u m p d (fit .site) (fit .sites) (seen .1) c a (seen .2)) .writes))
 
   -- the node stores and hears, then the message leaves the other site's channel, which is as it was
-  twin-receive : (i m p : ℕ) (x : Msg) → FitsReceive i m p x t → Seen (Receive i m p x) t u → Twin t (putChange (Receive i m p x) t) u (putChange (Receive i m p x) u)
-  unfolding putChange
+  twin-receive : (i m p : ℕ) (x : Msg) → FitsReceive i m p x t → Seen (Receive i m p x) t u → Twin t (putCore (Receive i m p x) t) u (putCore (Receive i m p x) u)
+  unfolding putCore
   twin-receive i m p x fit seen =
       twin-then (twin-atNode t u l l′ (received i x) m p (fit .site) (fit .partition) keeps (node .writes))
       (twin-atChannel (f t) (f u) (long-still t (f t) (same t l) l) (same u k ∙ l′ ∙ sym (same t l)) popped i p (fit .source) (fit .partition) d b popped-keeps
@@ -256,12 +261,50 @@ module _ (t u : List ℕ) (l : Long t) (l′ : length u ≡ length t) where
           twin-popped (channelOf (siteOf t i) p d) (channelOf (siteOf u i) p d) (same-channel t u l l′ i p d (fit .source) (fit .partition) b)
           (same-wait t u i m p (fit .site) (fit .other) (ap length (seen .2))) (seen .3)
 
-twin-change : (c : Change) (t u : List ℕ) → Long t → length u ≡ length t → Fits c t → Seen c t u → Twin t (putChange c t) u (putChange c u)
-unfolding putChange
-twin-change (SetSession s x) t u l l′ fit seen = twin-atSession t u l l′ s x (fit .0)
-twin-change (SetClock m p c) t u l l′ fit seen = twin-clock t u l l′ m p c (fit .0) (fit .1)
-twin-change (Publish m p x) t u l l′ fit seen = twin-publish t u l l′ m p x fit seen
-twin-change (Receive i m p x) t u l l′ fit seen = twin-receive t u l l′ i m p x fit seen
+-- ---- the kept places set anew, of two nodes that store the same
+
+module _ (t u : List ℕ) (l : Whole t) (l′ : length u ≡ length t) (m p : ℕ) (h : m < 4) (g : p < 4) where
+  twin-anew : settingIn t ≡ settingIn u → storeIn (nodeOf (siteOf t m) p) ≡ storeIn (nodeOf (siteOf u m) p) → Twin t (keptAnew m p t) u (keptAnew m p u)
+  unfolding keptAnew onKept SameWrites
+  twin-anew c e =
+      let places = placesIn (settingIn t) (nodeOf (siteOf t m) p) in
+      let same : placesIn (settingIn u) (nodeOf (siteOf u m) p) ≡ places =
+      ap (λ k. placesIn k (nodeOf (siteOf u m) p)) (sym c) ∙ places-same (settingIn t) (nodeOf (siteOf t m) p) (nodeOf (siteOf u m) p) (sym e) in
+      rw same (twin-onPart (keptAt m p) 64 (λ s. places) t u (omega arith) (sym l′) (λ s k. length-places (settingIn t) (nodeOf (siteOf t m) p)) (λ j. inr refl))
+
+-- t and u became v and w, in which node (m, p) has the message x too
+stored-alike : (t u v w : List ℕ) (m p : ℕ) (x : Msg) → p < settingIn t .partitions → AlikeAt t u m → storeIn (nodeOf (siteOf v m) p) ≡ storeIn (nodeOf (siteOf t m) p) ++ recordsIn x
+    → storeIn (nodeOf (siteOf w m) p) ≡ storeIn (nodeOf (siteOf u m) p) ++ recordsIn x → storeIn (nodeOf (siteOf v m) p) ≡ storeIn (nodeOf (siteOf w m) p)
+unfolding decode
+stored-alike t u v w m p x g a e f = e ∙ ap (λ s. s ++ recordsIn x) (a .store p (λ o. g)) ∙ sym f
+
+-- ---- any change, and many
+
+module _ (c : Change) (t u : List ℕ) (l : Long t) (l′ : length u ≡ length t) (fit : Fits c t) (fit′ : Fits c u) where
+  core-length : length (putCore c u) ≡ length (putCore c t)
+  core-length = length-putCore c u (as-long t u l l′) fit′ ∙ l′ ∙ sym (length-putCore c t l fit)
+
+  core-setting : settingIn t ≡ settingIn u → settingIn (putCore c t) ≡ settingIn (putCore c u)
+  core-setting e = setting-core c t l fit ∙ e ∙ sym (setting-core c u (as-long t u l l′) fit′)
+
+  core-whole : Whole t → Whole (putCore c t)
+  core-whole w = whole-still t (putCore c t) (length-putCore c t l fit) w
+
+twin-change : (c : Change) (t u : List ℕ) → Long t → length u ≡ length t → Fits c t → Fits c u → Seen c t u → Twin t (putChange c t) u (putChange c u)
+unfolding putChange keptAfter decode
+twin-change (SetSession s x) t u l l′ fit fit′ seen = unfold putCore in twin-atSession t u l l′ s x (fit .0)
+twin-change (SetClock m p k) t u l l′ fit fit′ seen = unfold putCore in twin-clock t u l l′ m p k (fit .0) (fit .1)
+twin-change (Publish m p x) t u l l′ fit fit′ seen =
+    let c = Publish m p x in
+    let h : m < 4 = omega (arith, fit .site, fit .sites) in
+    twin-then (twin-publish t u l l′ m p x fit seen)
+    (twin-anew (putCore c t) (putCore c u) (core-whole c t u l l′ fit fit′ (fit .whole)) (core-length c t u l l′ fit fit′) m p h (fit .partition) (core-setting c t u l l′ fit fit′ (seen .0 .setting))
+    (stored-alike t u (putCore c t) (putCore c u) m p x (seen .1) (seen .0) (published-store m p x t fit) (published-store m p x u fit′)))
+twin-change (Receive i m p x) t u l l′ fit fit′ seen =
+    let c = Receive i m p x in
+    twin-then (twin-receive t u l l′ i m p x fit seen)
+    (twin-anew (putCore c t) (putCore c u) (core-whole c t u l l′ fit fit′ (fit .whole)) (core-length c t u l l′ fit fit′) m p (fit .site) (fit .partition) (core-setting c t u l l′ fit fit′ (seen .0 .setting))
+    (stored-alike t u (putCore c t) (putCore c u) m p x (seen .1) (seen .0) (received-store i m p x t fit) (received-store i m p x u fit′)))
 
 pub twin-changes : (cs : List Change) (t u : List ℕ) → Long t → length u ≡ length t → FitsAll cs t → FitsAll cs u → SeenAll cs t u → Twin t (putChanges cs t) u (putChanges cs u)
 unfolding putChanges
@@ -269,5 +312,5 @@ twin-changes [] t u l l′ fit fit′ seen = twin-none t u (sym l′)
 twin-changes (c ∷ cs) t u l l′ fit fit′ seen =
     let e = length-putChange c t l (fit .0) in
     let e′ = length-putChange c u (as-long t u l l′) (fit′ .0) in
-    twin-then (twin-change c t u l l′ (fit .0) (seen .0))
+    twin-then (twin-change c t u l l′ (fit .0) (fit′ .0) (seen .0))
     (twin-changes cs (putChange c t) (putChange c u) (long-still t (putChange c t) e l) (e′ ∙ l′ ∙ sym e) (fit .1) (fit′ .1) (seen .1))

@@ -20,10 +20,11 @@ use Rattle.protocol.proofs.Influence.{influenced}
 use Rattle.protocol.proofs.Influence as Protocol
 use Rattle.event.specs.Event.{codeLawful, eventOf}
 use Rattle.event.specs.Fields.{unusedZero}
-use Rattle.table.specs.Parts.{tableLength, Long}
+use Rattle.table.specs.Parts.{tableLength, Whole}
 use Rattle.table.specs.Decode.{settingIn, decode}
 use Rattle.table.specs.Put.{putChange, putChanges}
 use Rattle.table.specs.Fits.{FitsAll}
+use Rattle.table.proofs.Parts.{whole-long}
 use Rattle.lawful.specs.WellFormed.{wellFormed}
 use Rattle.lawful.proofs.Facts.{formed}
 use Rattle.lawful.proofs.Fits.{step-fits}
@@ -80,12 +81,12 @@ module _ (t u : List ℕ) (l : length t ≡ tableLength) (l′ : length u ≡ ta
   same-changes : (e : Event) → step (decode t) e ≡ step (decode u) e → SeenAll (step (decode t) e .changes) t u → SameStep t u (stepped t e) (stepped u e)
   same-changes e q seen =
       let cs = step (decode t) e .changes in
-      let long : Long t = omega arith in
-      let long′ : Long u = omega arith in
-      let fit : FitsAll cs u = subst (λ o. FitsAll (o .changes) u) (sym q) (step-fits u long′ b′ w′ e) in
+      let whole : Whole t = omega arith in
+      let whole′ : Whole u = omega arith in
+      let fit : FitsAll cs u = subst (λ o. FitsAll (o .changes) u) (sym q) (step-fits u whole′ b′ w′ e) in
       record {
         answer = ap (λ o. o .says) q;
-        bytes = subst (λ o. SameWrites t (putChanges cs t) u (putChanges (o .changes) u)) q (twin-changes cs t u long (l′ ∙ sym l) (step-fits t long b w e) fit seen .writes);
+        bytes = subst (λ o. SameWrites t (putChanges cs t) u (putChanges (o .changes) u)) q (twin-changes cs t u (whole-long t whole) (l′ ∙ sym l) (step-fits t whole b w e) fit seen .writes);
       }
 
   -- the needs before the protocol's are the event's own

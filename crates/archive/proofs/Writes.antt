@@ -144,7 +144,7 @@ module _ (off k : ℕ) (f : List ℕ → List ℕ) (s r : List ℕ) (fit : off +
       go (no b) (no e) = outside (λ u v. omega arith)
       go (no b) (yes e) = let q : off + (j - off) ≡ j = omega arith in subst At q (inside (j - off) (omega arith))
 
-  twin-onPart : Both f (partOf off k s) (partOf off k r) → Twin s (onPart off k f s) r (onPart off k f r)
+  pub twin-onPart : Both f (partOf off k s) (partOf off k r) → Twin s (onPart off k f s) r (onPart off k f r)
   twin-onPart a = record { writes = writes-onPart a; long = length-onPart off k f s fit keeps ∙ l ∙ sym (length-onPart off k f r fit′ keeps) }
 
 -- ---- sessions and sites of the table

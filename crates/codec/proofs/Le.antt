@@ -53,6 +53,21 @@ load-put (suc n) t at x h b =
     load-put n u (suc at) (x / 256) (omega (arith, length-set t at (x % 256))) (omega arith) in
     omega arith
 
+-- ---- a load by its bytes
+
+pub load-byte : (t : List ℕ) (at : ℕ) → load 1 t at ≡ getD t at 0
+unfolding load
+load-byte t at = omega arith
+
+-- equal numbers have equal bytes
+pub same-bytes : (n : ℕ) (s t : List ℕ) (i j : ℕ) → Bytes s → Bytes t → load n s i ≡ load n t j → (k : ℕ) → k < n → getD s (i + k) 0 ≡ getD t (j + k) 0
+unfolding load
+same-bytes zero s t i j bs bt e k h = absurd (omega arith)
+same-bytes (suc n) s t i j bs bt e zero h = rw (add-zero, add-zero) (omega (arith, bs i, bt j))
+same-bytes (suc n) s t i j bs bt e (suc k) h =
+    rw (add-suc, add-suc, ← suc-add, ← suc-add)
+    (same-bytes n s t (suc i) (suc j) bs bt (omega (arith, bs i, bt j)) k (omega arith))
+
 -- ---- the range of a load
 
 pub span-pos : (n : ℕ) → 0 < span n

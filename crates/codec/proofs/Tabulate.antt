@@ -1,15 +1,18 @@
--- The laws of a function's first n values. In order: their number, each of them, functions that agree, one more behind, and one less in front. The last two are
--- all that a store's slots and a channel's ring need.
+-- The laws of a function's first n values. In order: their number, each of them, functions that agree, one more behind, and one less in front, which are all
+-- that a store's slots and a channel's ring need; what holds of each; an array that is filled; and one byte set.
 use Prim.Native.Nat.{ℕ, zero, suc, _+_, _-_, _<_}
 use native.Mathlib.Numerals.{add-one}
 use native.Mathlib.Omega.{arith}
+use native.Mathlib.Decide.{ℕ-discrete}
 use mathlib.Core.Path.{_≡_, refl, ap, ap₂, _∙_, sym, subst}
 use mathlib.Core.List.{List, [], _∷_, _++_, tail, List·Memᴰ, List·Memᴰ·cases-cons, List·Memᴰ·not-nil}
 use mathlib.Core.Logic.{_⊎_, inl, inr}
 use lib.ListN.{length, getD, set}
 use lib.Seq.{ext-getD, getD-set-same, getD-set-other}
 use borrow.Author.Count.{below-more}
+use Rattle.codec.specs.Le.{put, span}
 use Rattle.codec.specs.Tabulate.{tabulate}
+use Rattle.codec.proofs.Le.{length-put, getD-put-other, load-byte, load-put}
 
 module _ {ℓ} {A : Type ℓ} where
   pub tab-length : (n : ℕ) (f : ℕ → A) → length (tabulate n f) ≡ n
@@ -68,3 +71,18 @@ tab-each P (suc n) f h a m = go (tab-each P n (λ i. f (suc i)) (λ i l. h (suc 
 pub filled-more : {A : Type 0} (f : ℕ → A) (e : List A) (i : ℕ) (x d : A) → i < length e → ((k : ℕ) → k < i → getD e k d ≡ f k) → x ≡ f i → (k : ℕ) → k < i + 1 → getD (set e i x) k d ≡ f k
 filled-more f e i x d l h q =
     below-more (λ k. getD (set e i x) k d ≡ f k) i (λ k b. getD-set-other e i k x d (omega arith) ∙ h k b) (getD-set-same e i x d l ∙ q)
+
+-- one byte set
+pub tab-put : (n : ℕ) (f g : ℕ → ℕ) (k : ℕ) → k < n → g k < 256 → ((i : ℕ) → (i ≡ k → ⊥) → g i ≡ f i) → put 1 (tabulate n f) k (g k) ≡ tabulate n g
+unfolding span
+tab-put n f g k h small same = tab-is n g (put 1 l k (g k)) 0 (length-put 1 l k (g k) ∙ tab-length n f) (λ i b. go i b (ℕ-discrete i k))
+  where
+    l : List ℕ
+    l = tabulate n f
+
+    here : getD (put 1 l k (g k)) k 0 ≡ g k
+    here = sym (load-byte (put 1 l k (g k)) k) ∙ load-put 1 l k (g k) (omega (arith, tab-length n f)) (omega arith)
+
+    go : (i : ℕ) → i < n → Dec (i ≡ k) → getD (put 1 l k (g k)) i 0 ≡ g i
+    go i b (yes e) = rw e here
+    go i b (no d) = getD-put-other 1 l k (g k) i (λ u v. d (omega arith)) ∙ tab-at n f 0 i b ∙ sym (same i d)

@@ -63,6 +63,10 @@ used-yes true z a h t = t
 pub and-turn : (a b c : Bool) → (a && b && c) ≡ (a && c && b)
 and-turn a b c = and-assoc a b c ∙ ap (λ (d : Bool). a && d) (and-comm b c) ∙ sym (and-assoc a c b)
 
+-- a test that fails, whatever comes behind it
+pub no-and : {a : Bool} (b : Bool) → a ≡ false → false ≡ (a && b)
+no-and b e = rw e
+
 pub fails : {r x : Bool} → r ≡ x → not r ≡ true → x ≡ false
 fails {r} e h = sym e ∙ not-true r h
 

@@ -1,4 +1,5 @@
-// What decisions read of a well-formed table: a session, a key's partition, and of a node what it has heard and its newest record.
+// What decisions read of a well-formed table: a session, a key's partition, and of a node what it has heard, its newest record for a page, and its newest record
+// of a key by the kept place.
 ghost use mathlib.Core.Path.{_≡_};
 ghost use mathlib.Core.Bool.{true};
 ghost use Prim.Native.Nat.{_≤_, _<_};
@@ -6,13 +7,13 @@ ghost use lib.Dec.{T};
 ghost use Rattle.vector.specs.Entries.{entry};
 ghost use Rattle.codec.specs.Le.{load};
 ghost use Rattle.vector.specs.Meaning.{asVec};
-ghost use Rattle.protocol.specs.Record.{partitionOf};
+ghost use Rattle.protocol.specs.Record.{partitionOf, ofKey, fitsPage};
 ghost use Rattle.protocol.specs.Shelf.{found};
 ghost use Rattle.parts.specs.Node.{heardIn, storeIn};
 ghost use Rattle.parts.specs.Session.{sessionIn};
 ghost use Rattle.parts.specs.Meaning.{asSession};
-ghost use Rattle.search.specs.Found.{fits, foundOf};
-ghost use Rattle.table.specs.Parts.{Long, sessionOf, siteOf, nodeOf};
+ghost use Rattle.search.specs.Found.{foundOf};
+ghost use Rattle.table.specs.Parts.{Long, Whole, sessionOf, siteOf, nodeOf};
 ghost use Rattle.table.specs.Decode.{settingIn};
 ghost use Rattle.lawful.specs.WellFormed.{wellFormed};
 use parts::Session;
@@ -49,16 +50,20 @@ pub fn heard(t: &[u8], m: u8, p: u8) -> Vector
     nodes::heard(places::node(t, m, p))
 }
 
-// The newest record there that fits the read. What the read asks becomes one value only here: so the compiler sees at each call whether there is a page, and
-// leaves the other kind of search out.
-pub fn newest(t: &[u8], m: u8, p: u8, key: u8, paged: bool, snapshot: Vector) -> Found
+// The newest record there of the key that carries no more than the page's vector: all records of the node are looked at.
+pub fn newest(t: &[u8], m: u8, p: u8, key: u8, snapshot: Vector) -> Found
     requires { ⌜ Long (now t) × T (wellFormed (now t)) × (m < 4) × (p < 4) ⌝ }
-    ensures { λ r. ⌜ (foundOf r ≡ found (settingIn (now (t .entry))) (fits (record { key = key; paged = paged; snapshot = snapshot })) (storeIn (nodeOf (siteOf (now (t .entry)) m) p))) × (r .newest .numbers .source < 4) ⌝ }
+    ensures { λ r. ⌜ (foundOf r ≡ found (settingIn (now (t .entry))) (fitsPage key (asVec snapshot)) (storeIn (nodeOf (siteOf (now (t .entry)) m) p))) × (r .newest .numbers .source < 4) ⌝ }
 {
-    let w = Wanted {
-        key,
-        paged,
-        snapshot,
-    };
+    let w = Wanted { key, snapshot };
     search::newest(places::node(t, m, p), w)
+}
+
+// The newest record there of the key: nothing is searched, its place is kept.
+pub fn at_hand(t: &[u8], m: u8, p: u8, key: u8) -> Found
+    requires { ⌜ Whole (now t) × T (wellFormed (now t)) × (m < 4) × (p < 4) × (key < 64) ⌝ }
+    ensures { λ r. ⌜ (foundOf r ≡ found (settingIn (now (t .entry))) (ofKey key) (storeIn (nodeOf (siteOf (now (t .entry)) m) p))) × (r .newest .numbers .source < 4) ⌝ }
+{
+    let place = table::kept::place(t, m, p, key as usize);
+    search::found_at(places::node(t, m, p), place)
 }

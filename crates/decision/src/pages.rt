@@ -63,7 +63,7 @@ pub fn read(t: &[u8], s: u8, k: u8) -> Decided
     if !page.at_most(heard) {
         return answers::waits_to_hear(page, heard, Vector::WIDTH);
     }
-    let found = lookup::newest(t, m, p, k, true, page);
+    let found = lookup::newest(t, m, p, k, page);
     answers::kept(answers::shown(found), s, keeping::read_on(x, k, found))
 }
 

@@ -4,7 +4,7 @@ ghost use mathlib.Core.Path.{_≡_};
 ghost use Prim.Native.Nat.{_<_};
 ghost use lib.Dec.{T};
 ghost use Rattle.protocol.specs.Event.{OPEN, CLOSE, GET};
-ghost use Rattle.table.specs.Parts.{Long};
+ghost use Rattle.table.specs.Parts.{Long, Whole};
 ghost use Rattle.table.specs.Decode.{decode};
 ghost use Rattle.lawful.specs.WellFormed.{wellFormed};
 ghost use Rattle.outcome.specs.Decided.{outcomeOf};
@@ -15,7 +15,6 @@ use outcome::answers;
 use outcome::keeping;
 use outcome::raising;
 use protocol::Answer;
-use vector::Vector;
 
 // OPEN of session s at site m.
 pub fn open_session(t: &[u8], s: u8, m: u8) -> Decided
@@ -43,7 +42,7 @@ pub fn close_session(t: &[u8], s: u8) -> Decided
 // R44, GET of key k: the node's entry for every other site is at least the session's, and then the newest record is shown. Where one is not it waits,
 // for the lowest such site (R51).
 pub fn get(t: &[u8], s: u8, k: u8) -> Decided
-    requires { ⌜ Long (now t) × T (wellFormed (now t)) × (s < 16) ⌝ }
+    requires { ⌜ Whole (now t) × T (wellFormed (now t)) × (s < 16) × (k < 64) ⌝ }
     ensures { λ r. ⌜ outcomeOf r ≡ answered (decode (now (t .entry))) (GET s k) ⌝ }
 {
     let x = lookup::session(t, s);
@@ -60,6 +59,6 @@ pub fn get(t: &[u8], s: u8, k: u8) -> Decided
     if !vec.at_most_but(heard, m as usize) {
         return answers::waits_to_hear(vec, heard, m as usize);
     }
-    let found = lookup::newest(t, m, p, k, false, Vector::ZERO);
+    let found = lookup::at_hand(t, m, p, k);
     answers::kept(answers::shown(found), s, raising::raised_by(x, found))
 }

@@ -1,21 +1,20 @@
--- The facts of a well-formed table. In order: those of a session, a node, a channel, and the table, each with the test that they follow from and
--- give back (`formed`, `well-formed`); then what the table says is lawful
--- (`says-lawful`).
+-- The facts of a well-formed table. In order: those of a session, a node, a channel, a node's kept places, and the table, each with the test that they follow
+-- from and give back (`formed`, `kept`, `well-formed`); then what the table says is lawful (`says-lawful`).
 use Prim.Native.Nat.{ℕ, zero, suc, _+_, _-_, _≤_, _<_}
 use native.Mathlib.Omega.{arith}
-use mathlib.Core.Path.{_≡_, sym, ap₂, _∙_}
+use mathlib.Core.Path.{_≡_, sym, ap, ap₂, _∙_}
 use mathlib.Core.Bool.{Bool, true, false, cond, not, _&&_}
 use mathlib.Core.List.{List, [], _∷_, List·Memᴰ·not-nil}
 use lib.Dec.{T, leb, ltb, eqb}
-use lib.ListN.{length}
+use lib.ListN.{length, getD}
 use mir.Syntax.{w8}
 use mir.Val.{Fits}
-use mir.Facts.{fits-lit, and-yes, yes-and, ltb-yes, leb-yes, eqb-no, yes-ltb, yes-leb}
+use mir.Facts.{fits-lit, and-yes, yes-and, ltb-yes, leb-yes, eqb-yes, eqb-no, yes-ltb, yes-leb}
 use Rattle.codec.specs.Le.{load, span, Bytes}
 use Rattle.codec.specs.Below.{allBelow}
 use Rattle.codec.specs.Tabulate.{tabulate}
-use Rattle.codec.proofs.Le.{load-lt}
-use Rattle.codec.proofs.Tests.{cond-elim, every-yes, yes-every, every-both, every-joined}
+use Rattle.codec.proofs.Le.{load-lt, load-byte}
+use Rattle.codec.proofs.Tests.{cond-elim, yes-eqb, every-yes, yes-every, every-both, every-joined}
 use Rattle.codec.proofs.Below.{all-below-at, all-below}
 use Rattle.codec.proofs.Tabulate.{tab-length, tab-each}
 use Rattle.vector.proofs.Entries.{loadVec-beyond}
@@ -32,12 +31,16 @@ use Rattle.parts.specs.Node.{slotAt, clockIn, heardIn, heldIn, storeIn}
 use Rattle.parts.specs.Channel.{ringAt, frontIn, waitIn, queueIn}
 use Rattle.parts.specs.Session.{markAt, sessionIn}
 use Rattle.parts.specs.Fits.{FitsMarks}
-use Rattle.table.specs.Parts.{placeOf, sessionOf, siteOf, nodeOf, channelOf}
+use Rattle.search.specs.Kept.{placeIn, placesIn}
+use Rattle.search.proofs.Kept.{places-at, places-are}
+use Rattle.table.specs.Parts.{Whole, placeOf, sessionOf, siteOf, nodeOf, channelOf, keptOf}
 use Rattle.table.specs.Decode.{settingIn, decode}
 use Rattle.table.proofs.Parts.{every-session}
 use Rattle.table.proofs.Changes.{place-lt}
+use Rattle.table.proofs.KeptPlaces.{length-kept}
+use Rattle.table.proofs.Follows.{Kept}
 use Rattle.lawful.specs.LawfulValues.{settingLawful, sessionLawful}
-use Rattle.lawful.specs.WellFormed.{flagsAt, sessionFormed, nodeFormed, channelFormed, siteFormed, wellFormed}
+use Rattle.lawful.specs.WellFormed.{flagsAt, sessionFormed, nodeFormed, channelFormed, siteFormed, keptFormed, wellFormed}
 use Rattle.lawful.proofs.LawfulValues.{page-facts, LawfulSession, session-facts, LawfulState}
 
 -- ---- a session
@@ -130,7 +133,20 @@ module _ (c : Setting) (m : ℕ) (site : List ℕ) where
       yes-and (nodeFormed c m p (nodeOf site p)) (channels p) (node-formed c m p (nodeOf site p) (node p h))
       (all-below 3 (λ d. channelFormed c m p d (channelOf site p d)) (λ d g. channel-formed c m p d (channelOf site p d) (channel p d h g))))
 
--- ---- the table
+-- ---- a node's kept places
+
+pub kept-facts : (c : Setting) (n s : List ℕ) → length s ≡ 64 → T (keptFormed c n s) → s ≡ placesIn c n
+unfolding keptFormed
+kept-facts c n s l t =
+    places-are c n s l (λ k h. sym (load-byte s k) ∙ eqb-yes (all-below-at 64 (λ k. eqb (load 1 s k) (placeIn c n k)) t k h))
+
+kept-formed : (c : Setting) (n s : List ℕ) → s ≡ placesIn c n → T (keptFormed c n s)
+unfolding keptFormed
+kept-formed c n s e =
+    all-below 64 (λ k. eqb (load 1 s k) (placeIn c n k))
+    (λ k h. yes-eqb (load 1 s k) (placeIn c n k) (load-byte s k ∙ ap (λ (l : List ℕ). getD l k 0) e ∙ places-at c n k h))
+
+-- ---- the table, but for its kept places
 
 pub record Formed (t : List ℕ) : Type 0 where
   pub site : 0 < settingIn t .sites
@@ -163,7 +179,7 @@ module _ (t : List ℕ) where
   unfolding wellFormed
   formed w =
       let c = settingIn t in
-      let (setting, (sessions, (sites, _))) = every-yes _ w in
+      let (setting, (sessions, (sites, (_, _)))) = every-yes _ w in
       let fixed = setting-facts c setting in
       let site : (m : ℕ) → m < 4 → T (siteFormed c m (siteOf t m)) = all-below-at 4 (λ m. siteFormed c m (siteOf t m)) sites in
       record {
@@ -176,13 +192,25 @@ module _ (t : List ℕ) where
         channel = λ m p d h g. site-facts c m (siteOf t m) (site m h) p g .1 d;
       }
 
-  pub well-formed : Formed t → T (wellFormed t)
+  pub kept : Whole t → T (wellFormed t) → Kept t
   unfolding wellFormed
-  well-formed F =
+  kept l w m p h g =
+      let c = settingIn t in
+      let (_, (_, (_, (all, _)))) = every-yes _ w in
+      let here = all-below-at 4 (λ p. keptFormed c (nodeOf (siteOf t m) p) (keptOf t m p)) (all-below-at 4 (λ m. allBelow 4 (λ p. keptFormed c (nodeOf (siteOf t m) p) (keptOf t m p))) all m h) p g in
+      kept-facts c (nodeOf (siteOf t m) p) (keptOf t m p) (length-kept t m p l h g) here
+
+  pub well-formed : Formed t → Kept t → T (wellFormed t)
+  unfolding wellFormed
+  well-formed F K =
       let c = settingIn t in
       let sessions = all-below 16 (λ s. sessionFormed c (sessionOf t s)) (λ s h. session-formed c (sessionOf t s) (F .session s h)) in
       let sites = all-below 4 (λ m. siteFormed c m (siteOf t m)) (λ m h. site-formed c m (siteOf t m) (λ p. F .node m p h) (λ p d. F .channel m p d h)) in
-      yes-every _ (setting-lawful c (F .site) (F .sites) (F .partition) (F .partitions), (sessions, (sites, tt)))
+      let places =
+      all-below 4 (λ m. allBelow 4 (λ p. keptFormed c (nodeOf (siteOf t m) p) (keptOf t m p)))
+      (λ m h.
+      all-below 4 (λ p. keptFormed c (nodeOf (siteOf t m) p) (keptOf t m p)) (λ p g. kept-formed c (nodeOf (siteOf t m) p) (keptOf t m p) (K m p h g))) in
+      yes-every _ (setting-lawful c (F .site) (F .sites) (F .partition) (F .partitions), (sessions, (sites, (places, tt))))
 
 -- ---- what a table says is lawful
 

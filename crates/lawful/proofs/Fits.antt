@@ -10,25 +10,26 @@ use lib.ListN.{length}
 use borrow.Author.Tests.{lt-ltb, le-ltb, ne-eqb}
 use Rattle.codec.specs.Le.{Bytes}
 use Rattle.codec.proofs.Tabulate.{tab-length}
-use Rattle.protocol.specs.Record.{Msg, Update, Heartbeat}
+use Rattle.protocol.specs.Record.{Setting, Msg, Update, Heartbeat}
 use Rattle.protocol.specs.Event.{Event}
 use Rattle.protocol.specs.Change.{Change, SetSession, SetClock, Publish, Receive}
 use Rattle.protocol.specs.Step.{step}
 use Rattle.protocol.proofs.Times.{time-fits}
 use Rattle.record.specs.RecordBytes.{messageAt}
-use Rattle.record.proofs.Ranges.{message-fits}
+use Rattle.record.proofs.Ranges.{LawfulMsg, message-fits}
 use Rattle.parts.specs.Channel.{ringAt, frontIn, waitIn, queueIn}
 use Rattle.parts.specs.Room.{Room}
-use Rattle.table.specs.Parts.{Long, placeOf, siteOf, nodeOf, channelOf}
+use Rattle.table.specs.Parts.{Whole, placeOf, siteOf, nodeOf, channelOf}
 use Rattle.table.specs.Decode.{settingIn, decode}
 use Rattle.table.specs.Put.{putChange}
-use Rattle.table.specs.Fits.{Fits, FitsAll}
-use Rattle.table.proofs.Parts.{long-still}
+use Rattle.table.specs.Fits.{Keyed, Fits, FitsAll}
+use Rattle.table.proofs.Parts.{whole-long, whole-still}
 use Rattle.table.proofs.Bytes.{bytes-putChange}
 use Rattle.table.proofs.Decode.{length-putChange, setting-put, decode-put}
+use Rattle.table.proofs.Follows.{Kept, change-kept}
 use Rattle.lawful.specs.WellFormed.{wellFormed}
 use Rattle.lawful.proofs.LawfulValues.{session-fits}
-use Rattle.lawful.proofs.Facts.{formed, store-length, says-lawful}
+use Rattle.lawful.proofs.Facts.{formed, kept, store-length, says-lawful}
 use Rattle.lawful.proofs.Served.{RoomIn, Lawful, LawfulAll, step-lawful}
 
 -- ---- the lists that a table says, and its bytes' counts
@@ -58,13 +59,17 @@ room-for : (t : List ℕ) (m p : ℕ) (x : Msg) → RoomIn x (decode t .net .sto
 room-for t m p (Update r) room = omega (arith, store-length t m p)
 room-for t m p (Heartbeat s) room = tt
 
+keyed : (c : Setting) (i p : ℕ) (x : Msg) → LawfulMsg c i p x → Keyed x
+keyed c i p (Update r) ok = ok .1 .key
+keyed c i p (Heartbeat s) ok = tt
+
 -- ---- changes
 
-pub lawful-fits : (c : Change) (t : List ℕ) → settingIn t .sites ≤ 4 → settingIn t .partitions ≤ 4 → Bytes t → Lawful c (decode t) → Fits c t
+pub lawful-fits : (c : Change) (t : List ℕ) → Whole t → Kept t → settingIn t .sites ≤ 4 → settingIn t .partitions ≤ 4 → Bytes t → Lawful c (decode t) → Fits c t
 unfolding decode
-lawful-fits (SetSession s x) t few few′ bytes ok = (ok .0, session-fits (settingIn t) x few (ok .1))
-lawful-fits (SetClock m p c) t few few′ bytes ok = (omega (arith, ok .0), omega (arith, ok .1), time-fits c (ok .2))
-lawful-fits (Publish m p x) t few few′ bytes ok = record {
+lawful-fits (SetSession s x) t l K few few′ bytes ok = (ok .0, session-fits (settingIn t) x few (ok .1))
+lawful-fits (SetClock m p c) t l K few few′ bytes ok = (omega (arith, ok .0), omega (arith, ok .1), time-fits c (ok .2))
+lawful-fits (Publish m p x) t l K few few′ bytes ok = record {
   site = ok .site;
   sites = few;
   partition = omega (arith, ok .partition);
@@ -74,8 +79,11 @@ lawful-fits (Publish m p x) t few few′ bytes ok = record {
       let o = other-at (settingIn t .sites) m d (ok .site) h in
       let e = chan-length t m (o .site) p (omega (arith, o .there)) (λ q. o .other (sym q)) in
       let f = ap (λ k. waitIn (channelOf (siteOf t m) p k)) (o .place) in omega (arith, ok .ways (o .site) (o .there) (o .other));
+  key = keyed (settingIn t) m p x (ok .msg);
+  whole = l;
+  kept = K m p (omega (arith, ok .site)) (omega (arith, ok .partition));
 }
-lawful-fits (Receive i m p x) t few few′ bytes ok = record {
+lawful-fits (Receive i m p x) t l K few few′ bytes ok = record {
   source = omega (arith, ok .source);
   site = omega (arith, ok .site);
   other = ok .other;
@@ -84,18 +92,22 @@ lawful-fits (Receive i m p x) t few few′ bytes ok = record {
   room = room-for t m p x (ok .room);
   waits = let e = chan-length t i m p (omega (arith, ok .site)) (ok .other) in omega (arith, ok .waits);
   bytes = bytes;
+  key = keyed (settingIn t) i p x (ok .msg);
+  whole = l;
+  kept = K m p (omega (arith, ok .site)) (omega (arith, ok .partition));
 }
 
-all-fit : (cs : List Change) (t : List ℕ) → Long t → settingIn t .sites ≤ 4 → settingIn t .partitions ≤ 4 → Bytes t → LawfulAll cs (decode t) → FitsAll cs t
-all-fit [] t l few few′ bytes ok = tt
-all-fit (c ∷ cs) t l few few′ bytes ok =
-    let fit = lawful-fits c t few few′ bytes (ok .0) in
+all-fit : (cs : List Change) (t : List ℕ) → Whole t → Kept t → settingIn t .sites ≤ 4 → settingIn t .partitions ≤ 4 → Bytes t → LawfulAll cs (decode t) → FitsAll cs t
+all-fit [] t w K few few′ bytes ok = tt
+all-fit (c ∷ cs) t w K few few′ bytes ok =
+    let l = whole-long t w in
+    let fit = lawful-fits c t w K few few′ bytes (ok .0) in
     let same = setting-put c t l fit in (
       fit,
-      all-fit cs (putChange c t) (long-still t (putChange c t) (length-putChange c t l fit) l) (subst (λ k. k .sites ≤ 4) (sym same) few) (subst (λ k. k .partitions ≤ 4) (sym same) few′)
+      all-fit cs (putChange c t) (whole-still t (putChange c t) (length-putChange c t l fit) w) (change-kept c t w fit K) (subst (λ k. k .sites ≤ 4) (sym same) few) (subst (λ k. k .partitions ≤ 4) (sym same) few′)
           (bytes-putChange c t bytes) (subst (LawfulAll cs) (sym (decode-put c t l fit)) (ok .1)),
     )
 
-pub step-fits : (t : List ℕ) → Long t → Bytes t → T (wellFormed t) → (e : Event) → FitsAll (step (decode t) e .changes) t
+pub step-fits : (t : List ℕ) → Whole t → Bytes t → T (wellFormed t) → (e : Event) → FitsAll (step (decode t) e .changes) t
 step-fits t l bytes w e =
-    let F = formed t w in all-fit (step (decode t) e .changes) t l (F .sites) (F .partitions) bytes (step-lawful (decode t) (says-lawful t F bytes) e)
+    let F = formed t w in all-fit (step (decode t) e .changes) t l (kept t l w) (F .sites) (F .partitions) bytes (step-lawful (decode t) (says-lawful t F bytes) e)

@@ -9,6 +9,7 @@ use lib.Dec.{T}
 use lib.ListN.{length, getD, replicate, length-replicate, getD-replicate, List·getD-eq-default}
 use Rattle.codec.specs.Le.{load, put}
 use Rattle.codec.proofs.Le.{getD-put-other}
+use Rattle.codec.proofs.Part.{getD-part}
 use Rattle.vector.specs.Vec.{zeros}
 use Rattle.protocol.specs.Record.{Setting}
 use Rattle.protocol.specs.State.{closed, setup}
@@ -17,11 +18,14 @@ use Rattle.record.proofs.Ranges.{zeros-lawful, vec-lawful}
 use Rattle.parts.specs.Node.{clockIn, heardIn, heldIn}
 use Rattle.parts.specs.Channel.{waitIn}
 use Rattle.parts.specs.Session.{sessionIn}
-use Rattle.table.specs.Parts.{tableLength, sessionOf, siteOf, nodeOf, channelOf}
+use Rattle.search.proofs.Kept.{place-held, places-are}
+use Rattle.table.specs.Parts.{tableLength, keptAt, sessionOf, siteOf, nodeOf, channelOf, keptOf}
 use Rattle.table.specs.Decode.{settingIn, decode}
 use Rattle.table.specs.Put.{fresh}
 use Rattle.table.proofs.Parts.{every-session}
-use Rattle.table.proofs.Fresh.{decode-fresh}
+use Rattle.table.proofs.KeptPlaces.{kept-is, length-kept}
+use Rattle.table.proofs.Follows.{Kept}
+use Rattle.table.proofs.Fresh.{length-fresh, decode-fresh}
 use Rattle.lawful.specs.LawfulValues.{settingLawful, sessionLawful}
 use Rattle.lawful.specs.WellFormed.{wellFormed}
 use Rattle.lawful.proofs.LawfulValues.{session-lawful}
@@ -80,6 +84,18 @@ module _ (c t : Setting) (u : List ℕ) (says : decode u ≡ setup c) where
       let none : length (decode u .net .chan m (o .site) p) ≡ 0 = ap (λ S. length (S .net .chan m (o .site) p)) says in
       record { wait = omega arith; ring = λ k l. absurd (omega arith) }
 
+-- nothing is held, and nothing is kept
+kept-fresh : (c : Setting) → decode (fresh c) ≡ setup c → Kept (fresh c)
+unfolding decode setup
+kept-fresh c says m p h g =
+    let t = fresh c in
+    let n = nodeOf (siteOf t m) p in
+    let held : heldIn n ≡ 0 = sym (store-length t m p) ∙ ap (λ S. length (S .net .store m p)) says in
+    places-are (settingIn t) n (keptOf t m p) (length-kept t m p (omega (arith, length-fresh c)) h g)
+    (λ k b.
+    rw (kept-is t m p h g)
+    (getD-part (keptAt m p) 64 t k b ∙ blank-fresh c (keptAt m p + k) (omega arith) ∙ omega (arith, held, place-held (settingIn t) n k)))
+
 pub fresh-formed : (c : Setting) → T (settingLawful c) → T (wellFormed (fresh c))
 unfolding decode setup
 fresh-formed c ok =
@@ -103,3 +119,4 @@ fresh-formed c ok =
       node = λ m p h g. node-setup c t (fresh c) says m p;
       channel = λ m p d h g k. channel-setup c t (fresh c) says m p d h k;
     })
+    (kept-fresh c says)

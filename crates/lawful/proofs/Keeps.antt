@@ -1,5 +1,5 @@
 -- A lawful change keeps a table well formed. In order: a table of the same setting, a change of one site, node or channel, each change, many changes,
--- and every step (`step-formed`).
+-- and every step (`step-formed`). That the kept places go on agreeing is table's law `change-kept`.
 use Prim.Native.Nat.{ℕ, _-_, _≤_, _<_}
 use native.Mathlib.Omega.{arith}
 use mathlib.Core.Path.{_≡_, sym, subst, _∙_}
@@ -19,16 +19,18 @@ use Rattle.parts.specs.Node.{clockSet, published, received}
 use Rattle.parts.specs.Channel.{pushed, popped}
 use Rattle.parts.specs.Session.{putSession}
 use Rattle.parts.proofs.Lengths.{length-clockSet, length-received, length-popped, length-putSession}
-use Rattle.table.specs.Parts.{Long, placeOf, sessionOf, siteOf, nodeOf, channelOf, onSession, onSite, onNode, onChannel}
+use Rattle.table.specs.Parts.{Long, Whole, placeOf, sessionOf, siteOf, nodeOf, channelOf, onSession, onSite, onNode, onChannel}
 use Rattle.table.specs.Decode.{settingIn, decode}
-use Rattle.table.specs.Put.{publishedOn, putChange, putChanges}
+use Rattle.table.specs.Put.{publishedOn, putCore, keptAnew, putChange, putChanges}
 use Rattle.table.specs.Fits.{FitsPublish, FitsReceive, Fits}
-use Rattle.table.proofs.Parts.{long-still, length-session, session-onSession, site-onSession, length-onSite, session-onSite, load-onSite, length-nodeOf, length-channelOf, bytes-channelOf}
+use Rattle.table.proofs.Parts.{long-still, whole-long, whole-still, length-session, session-onSession, site-onSession, length-onSite, session-onSite, load-onSite, length-nodeOf, length-channelOf, bytes-channelOf}
 use Rattle.table.proofs.Changes.{at-yes, place-lt, onNode-keeps, node-atNode, channel-atNode, onChannel-keeps, node-atChannel, channel-atChannel, publishedOn-keeps, node-atPublish, channel-atPublish}
 use Rattle.table.proofs.Bytes.{bytes-putChange}
-use Rattle.table.proofs.Decode.{length-putChange, setting-put, decode-put}
+use Rattle.table.proofs.KeptPlaces.{setting-anew, site-anew, session-anew, after-elim}
+use Rattle.table.proofs.Decode.{length-putCore, setting-core, length-putChange, decode-put}
+use Rattle.table.proofs.Follows.{Kept, change-kept}
 use Rattle.lawful.specs.WellFormed.{wellFormed}
-use Rattle.lawful.proofs.Facts.{SessionFacts, NodeFacts, ChannelFacts, Formed, formed, well-formed, says-lawful}
+use Rattle.lawful.proofs.Facts.{SessionFacts, NodeFacts, ChannelFacts, Formed, formed, kept, well-formed, says-lawful}
 use Rattle.lawful.proofs.Served.{Lawful, LawfulAll, step-lawful}
 use Rattle.lawful.proofs.Fits.{lawful-fits}
 use Rattle.lawful.proofs.SessionFormed.{session-kept}
@@ -90,30 +92,33 @@ module _ (t : List ℕ) (l : Long t) (F : Formed t) where
 
 -- ---- each change
 
-module _ (t : List ℕ) (l : Long t) (bytes : Bytes t) (F : Formed t) where
+module _ (t : List ℕ) (w : Whole t) (K : Kept t) (bytes : Bytes t) (F : Formed t) where
+  l : Long t
+  l = whole-long t w
+
   fits : (c : Change) → Lawful c (decode t) → Fits c t
-  fits c ok = lawful-fits c t (F .sites) (F .partitions) bytes ok
+  fits c ok = lawful-fits c t w K (F .sites) (F .partitions) bytes ok
 
   module _ (s : ℕ) (x : Session) (ok : Lawful (SetSession s x) (decode t)) where
     put-keeps : Keeps 128 (putSession x)
     put-keeps b e = length-putSession x b ∙ e
 
-    session-changed : (r : ℕ) → r < 16 → SessionFacts (settingIn t) (sessionOf (putChange (SetSession s x) t) r)
-    unfolding putChange decode
+    session-changed : (r : ℕ) → r < 16 → SessionFacts (settingIn t) (sessionOf (putCore (SetSession s x) t) r)
+    unfolding putCore decode
     session-changed r h =
         rw (session-onSession t s (putSession x) l (ok .0) put-keeps r)
         (cond-elim (SessionFacts (settingIn t)) (eqb r s)
         (λ e. session-kept (settingIn t) x (sessionOf t r) (length-session t r l h) (F .sites) (ok .1) (F .session r h)) (λ e. F .session r h))
 
-    session-formed : Formed (putChange (SetSession s x) t)
-    unfolding putChange
+    session-formed : Formed (putCore (SetSession s x) t)
+    unfolding putCore
     session-formed =
         let sites = site-onSession t s (putSession x) l (ok .0) put-keeps in
-        formed-again t (onSession s (putSession x) t) (setting-put (SetSession s x) t l (fits (SetSession s x) ok)) F session-changed
+        formed-again t (onSession s (putSession x) t) (setting-core (SetSession s x) t l (fits (SetSession s x) ok)) F session-changed
         (λ m p h g. rw (sites m) (F .node m p h g)) (λ m p d h g k. rw (sites m) (F .channel m p d h g k))
 
-  clock-formed : (m p v : ℕ) → Lawful (SetClock m p v) (decode t) → Formed (putChange (SetClock m p v) t)
-  unfolding putChange decode
+  clock-formed : (m p v : ℕ) → Lawful (SetClock m p v) (decode t) → Formed (putCore (SetClock m p v) t)
+  unfolding putCore decode
   clock-formed m p v ok =
       let fit = fits (SetClock m p v) ok in
       onNode-formed t l F m p (clockSet v) (fit .0) (fit .1) (λ n e. length-clockSet v n ∙ e)
@@ -142,8 +147,8 @@ module _ (t : List ℕ) (l : Long t) (bytes : Bytes t) (F : Formed t) where
         let part = fit-publish .partition in
         pushed-kept (settingIn t) m p d (channelOf (siteOf t m) p d) (length-channelOf t m p l there part d h) x (fit-publish .ways d g) (F .sites) (ok .site) (ok .partition) g (ok .msg) (F .channel m p d there part h)
 
-    publish-formed : Formed (putChange (Publish m p x) t)
-    unfolding putChange
+    publish-formed : Formed (putCore (Publish m p x) t)
+    unfolding putCore
     publish-formed =
         let c = settingIn t in
         let part = fit-publish .partition in
@@ -179,8 +184,8 @@ module _ (t : List ℕ) (l : Long t) (bytes : Bytes t) (F : Formed t) where
         onNode-formed t l F m p (received i x) site part received-keeps
         (received-kept (settingIn t) m p (F .sites) (ok .site) (ok .partition) i x (nodeOf (siteOf t m) p) (length-nodeOf t m p l site part) (ok .source) (ok .msg) (fit-receive .room) (F .node m p site part))
 
-    receive-formed : Formed (putChange (Receive i m p x) t)
-    unfolding putChange
+    receive-formed : Formed (putCore (Receive i m p x) t)
+    unfolding putCore
     receive-formed =
         let site = fit-receive .site in
         let part = fit-receive .partition in
@@ -191,24 +196,39 @@ module _ (t : List ℕ) (l : Long t) (bytes : Bytes t) (F : Formed t) where
         let bytes′ = subst Bytes (sym (channel-atNode t m p (received i x) l site part received-keeps j q e)) (bytes-channelOf t bytes j q e) in
         popped-kept (settingIn u) j q e (channelOf (siteOf u j) q e) (length-channelOf u j q long h g e k) bytes′ (node-received .channel j q e h g k))
 
-  pub change-formed : (c : Change) → Lawful c (decode t) → Formed (putChange c t)
-  change-formed (SetSession s x) = session-formed s x
-  change-formed (SetClock m p v) = clock-formed m p v
-  change-formed (Publish m p x) = publish-formed m p x
-  change-formed (Receive i m p x) = receive-formed i m p x
+  core-formed : (c : Change) → Lawful c (decode t) → Formed (putCore c t)
+  core-formed (SetSession s x) = session-formed s x
+  core-formed (SetClock m p v) = clock-formed m p v
+  core-formed (Publish m p x) = publish-formed m p x
+  core-formed (Receive i m p x) = receive-formed i m p x
+
+  -- and its kept places set anew
+  anew-formed : (m p : ℕ) (u : List ℕ) → Whole u → m < 4 → p < 4 → Formed u → Formed (keptAnew m p u)
+  anew-formed m p u w h g G =
+      let sites = site-anew u m p w h g in
+      formed-again u (keptAnew m p u) (setting-anew u m p w h g) G
+      (λ s b. rw (session-anew u m p w h g s) (G .session s b))
+      (λ j q a b. rw (sites j) (G .node j q a b))
+      (λ j q d a b k. rw (sites j) (G .channel j q d a b k))
+
+  change-formed : (c : Change) → Lawful c (decode t) → Formed (putChange c t)
+  unfolding putChange
+  change-formed c ok =
+      after-elim Formed c t (putCore c t) (fits c ok) (length-putCore c t l (fits c ok)) (core-formed c ok)
+      (λ m p w h g. anew-formed m p (putCore c t) w h g (core-formed c ok))
 
 -- ---- many changes, and every step
 
-changes-formed : (cs : List Change) (t : List ℕ) → Long t → Bytes t → Formed t → LawfulAll cs (decode t) → Formed (putChanges cs t)
+changes-formed : (cs : List Change) (t : List ℕ) → Whole t → Bytes t → Kept t → Formed t → LawfulAll cs (decode t) → T (wellFormed (putChanges cs t))
 unfolding putChanges
-changes-formed [] t l bytes F ok = F
-changes-formed (c ∷ cs) t l bytes F ok =
-    let fit = lawful-fits c t (F .sites) (F .partitions) bytes (ok .0) in
-    changes-formed cs (putChange c t) (long-still t (putChange c t) (length-putChange c t l fit) l) (bytes-putChange c t bytes) (change-formed t l bytes F c (ok .0))
+changes-formed [] t l bytes K F ok = well-formed t F K
+changes-formed (c ∷ cs) t w bytes K F ok =
+    let l = whole-long t w in
+    let fit = lawful-fits c t w K (F .sites) (F .partitions) bytes (ok .0) in
+    changes-formed cs (putChange c t) (whole-still t (putChange c t) (length-putChange c t l fit) w) (bytes-putChange c t bytes) (change-kept c t w fit K) (change-formed t w K bytes F c (ok .0))
     (subst (LawfulAll cs) (sym (decode-put c t l fit)) (ok .1))
 
-pub step-formed : (t : List ℕ) → Long t → Bytes t → T (wellFormed t) → (e : Event) → T (wellFormed (putChanges (step (decode t) e .changes) t))
+pub step-formed : (t : List ℕ) → Whole t → Bytes t → T (wellFormed t) → (e : Event) → T (wellFormed (putChanges (step (decode t) e .changes) t))
 step-formed t l bytes w e =
     let F = formed t w in
-    well-formed (putChanges (step (decode t) e .changes) t)
-    (changes-formed (step (decode t) e .changes) t l bytes F (step-lawful (decode t) (says-lawful t F bytes) e))
+    changes-formed (step (decode t) e .changes) t l bytes (kept t l w) F (step-lawful (decode t) (says-lawful t F bytes) e)

@@ -2,6 +2,7 @@
 -- together, step by step; and for the check's own code page keys.
 pub mod LawfulValues
 pub mod Facts
+pub mod Bests
 pub mod Served
 pub mod Fits
 pub mod NodeFormed

@@ -10,10 +10,10 @@ use Rattle.protocol.specs.Record.{Setting}
 use Rattle.protocol.specs.State.{setup}
 use Rattle.protocol.specs.Event.{Event}
 use Rattle.protocol.specs.Step.{step, next}
-use Rattle.table.specs.Parts.{tableLength, Long}
+use Rattle.table.specs.Parts.{tableLength, Whole}
 use Rattle.table.specs.Decode.{decode}
 use Rattle.table.specs.Put.{putChanges, fresh}
-use Rattle.table.proofs.Parts.{long-still}
+use Rattle.table.proofs.Parts.{whole-long, whole-still}
 use Rattle.table.proofs.Bytes.{bytes-putChanges}
 use Rattle.table.proofs.Decode.{length-putChanges, decode-puts}
 use Rattle.table.proofs.Fresh.{length-fresh, decode-fresh, bytes-fresh}
@@ -24,15 +24,15 @@ use Rattle.lawful.proofs.Fits.{step-fits}
 use Rattle.lawful.proofs.Keeps.{step-formed}
 use Rattle.lawful.proofs.Fresh.{fresh-formed}
 
--- a table of n bytes, long enough and well formed
+-- a table of n bytes, whole and well formed
 pub record Sound (n : ℕ) (t : List ℕ) : Type 0 where
   pub size : length t ≡ n
-  pub long : Long t
+  pub whole : Whole t
   pub bytes : Bytes t
   pub formed : T (wellFormed t)
 
 pub fresh-sound : (c : Setting) → T (settingLawful c) → Sound tableLength (fresh c)
-fresh-sound c ok = record { size = length-fresh c; long = omega (arith, length-fresh c); bytes = bytes-fresh c; formed = fresh-formed c ok }
+fresh-sound c ok = record { size = length-fresh c; whole = omega (arith, length-fresh c); bytes = bytes-fresh c; formed = fresh-formed c ok }
 
 pub fresh-says : (c : Setting) → T (settingLawful c) → decode (fresh c) ≡ setup c
 fresh-says c ok = let fixed = setting-facts c ok in decode-fresh c (omega arith) (omega arith)
@@ -41,14 +41,14 @@ module _ (n : ℕ) (t : List ℕ) (ok : Sound n t) (e : Event) where
   pub step-sound : Sound n (putChanges (step (decode t) e .changes) t)
   step-sound =
       let cs = step (decode t) e .changes in
-      let same = length-putChanges cs t (ok .long) (step-fits t (ok .long) (ok .bytes) (ok .formed) e) in
+      let same = length-putChanges cs t (whole-long t (ok .whole)) (step-fits t (ok .whole) (ok .bytes) (ok .formed) e) in
       record {
         size = same ∙ ok .size;
-        long = long-still t (putChanges cs t) same (ok .long);
+        whole = whole-still t (putChanges cs t) same (ok .whole);
         bytes = bytes-putChanges cs t (ok .bytes);
-        formed = step-formed t (ok .long) (ok .bytes) (ok .formed) e;
+        formed = step-formed t (ok .whole) (ok .bytes) (ok .formed) e;
       }
 
   pub step-says : decode (putChanges (step (decode t) e .changes) t) ≡ next (decode t) e
   unfolding next
-  step-says = decode-puts (step (decode t) e .changes) t (ok .long) (step-fits t (ok .long) (ok .bytes) (ok .formed) e)
+  step-says = decode-puts (step (decode t) e .changes) t (whole-long t (ok .whole)) (step-fits t (ok .whole) (ok .bytes) (ok .formed) e)

@@ -1,3 +1,3 @@
--- When a table is well formed (R20 to R28): of values, and of a table's bytes.
+-- When a table is well formed (R20 to R29): of values, and of a table's bytes.
 pub mod LawfulValues
 pub mod WellFormed

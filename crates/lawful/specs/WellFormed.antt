@@ -1,9 +1,10 @@
--- When a table's bytes are well formed (R20 to R28): every value is lawful, and so is every byte that encodes a choice: flags, marks, kinds, a heartbeat's zeros.
+-- When a table's bytes are well formed (R20 to R29): every value is lawful, and so is every byte that encodes a choice: flags, marks, kinds, a heartbeat's zeros;
+-- and the kept places agree with the search.
 -- Slots, ring places and page keys that are not in use, and spare bytes, may hold anything; flags, marks, clocks and vectors are tested at every place.
 use Prim.Native.Nat.{ℕ, _+_, _-_}
 use mathlib.Core.Bool.{Bool, cond, _&&_}
 use mathlib.Core.List.{List, [], _∷_}
-use lib.Dec.{leb, ltb}
+use lib.Dec.{leb, ltb, eqb}
 use Rattle.codec.specs.Le.{load}
 use Rattle.codec.specs.Below.{allBelow}
 use Rattle.codec.specs.Tests.{every}
@@ -13,7 +14,8 @@ use Rattle.record.specs.RecordFormed.{messageFormed, recordFormed}
 use Rattle.parts.specs.Node.{slotAt, clockIn, heardIn, heldIn}
 use Rattle.parts.specs.Channel.{ringAt, frontIn, waitIn}
 use Rattle.parts.specs.Session.{sessionIn}
-use Rattle.table.specs.Parts.{sessionOf, siteOf, nodeOf, channelOf}
+use Rattle.search.specs.Kept.{placeIn}
+use Rattle.table.specs.Parts.{sessionOf, siteOf, nodeOf, channelOf, keptOf}
 use Rattle.table.specs.Decode.{settingIn}
 use Rattle.lawful.specs.LawfulValues.{settingLawful, sessionLawful}
 
@@ -41,8 +43,16 @@ channelFormed c i p d b =
 unfoldable pub siteFormed : Setting → (m : ℕ) → List ℕ → Bool
 siteFormed c m site = allBelow 4 (λ p. nodeFormed c m p (nodeOf site p) && allBelow 3 (λ d. channelFormed c m p d (channelOf site p d)))
 
+-- R29: the kept places s of the node n are what the search finds, at every key
+unfoldable pub keptFormed : Setting → (n s : List ℕ) → Bool
+keptFormed c n s = allBelow 64 (λ k. eqb (load 1 s k) (placeIn c n k))
+
 -- the length is not tested here: a wrong one is refused with 23
 unfoldable pub wellFormed : List ℕ → Bool
 wellFormed t =
     let c = settingIn t in
-    every (settingLawful c ∷ allBelow 16 (λ s. sessionFormed c (sessionOf t s)) ∷ allBelow 4 (λ m. siteFormed c m (siteOf t m)) ∷ [])
+    every
+    (settingLawful c
+    ∷ allBelow 16 (λ s. sessionFormed c (sessionOf t s))
+    ∷ allBelow 4 (λ m. siteFormed c m (siteOf t m))
+    ∷ allBelow 4 (λ m. allBelow 4 (λ p. keptFormed c (nodeOf (siteOf t m) p) (keptOf t m p))) ∷ [])

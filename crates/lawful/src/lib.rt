@@ -1,18 +1,19 @@
-// R20 to R28: whether a table is well formed, computed over the whole table. It only reads, and of records and messages only those in use. In
-// order: the numbers of sites and partitions, the sessions, the sites, the table. What each thing must be stands in a file of its own.
+// R20 to R29: whether a table is well formed, computed over the whole table. It only reads, and of records and messages only those in use. In
+// order: the numbers of sites and partitions, the sessions, the sites with the kept places of their nodes, the table. What each thing must be stands in a file of its own.
 ghost use mathlib.Core.Path.{_≡_};
 ghost use mathlib.Core.Bool.{_&&_};
 ghost use Prim.Native.Nat.{_<_};
 ghost use lib.Dec.{leb, ltb};
 ghost use Rattle.codec.specs.Below.{allBelow};
 ghost use Rattle.protocol.specs.Meaning.{settingOf};
-ghost use Rattle.table.specs.Parts.{Long, sessionOf, siteOf};
+ghost use Rattle.table.specs.Parts.{Long, Whole, sessionOf, siteOf, nodeOf, keptOf};
 ghost use Rattle.lawful.specs.LawfulValues.{settingLawful};
-ghost use Rattle.lawful.specs.WellFormed.{sessionFormed, siteFormed, wellFormed};
+ghost use Rattle.lawful.specs.WellFormed.{sessionFormed, siteFormed, keptFormed, wellFormed};
 use protocol::limits::Setting;
 use table::places;
 
 mod channels;
+mod kept;
 mod nodes;
 mod pages;
 mod sessions;
@@ -46,12 +47,12 @@ fn sessions_formed(t: &[u8], setting: Setting) -> bool
 }
 
 fn sites_formed(t: &[u8], setting: Setting) -> bool
-    requires { ⌜ Long (now t) × (0 < setting .partitions) ⌝ }
-    ensures { λ r. ⌜ r ≡ allBelow 4 (λ m. siteFormed (settingOf setting) m (siteOf (now (t .entry)) m)) ⌝ }
+    requires { ⌜ Whole (now t) × (0 < setting .partitions) ⌝ }
+    ensures { λ r. ⌜ r ≡ (allBelow 4 (λ m. siteFormed (settingOf setting) m (siteOf (now (t .entry)) m)) && allBelow 4 (λ m. allBelow 4 (λ p. keptFormed (settingOf setting) (nodeOf (siteOf (now (t .entry)) m) p) (keptOf (now (t .entry)) m p)))) ⌝ }
 {
     let mut m = 0;
     while m < 4 {
-        if !sites::site_formed(places::site(t, m), setting, m) {
+        if !sites::site_formed(t, setting, m) {
             return false;
         }
         m += 1;
@@ -61,7 +62,7 @@ fn sites_formed(t: &[u8], setting: Setting) -> bool
 
 // The numbers of sites and partitions first: nothing else is looked at unless they are lawful.
 pub fn well_formed(t: &[u8]) -> bool
-    requires { ⌜ Long (now t) ⌝ }
+    requires { ⌜ Whole (now t) ⌝ }
     ensures { λ r. ⌜ r ≡ wellFormed (now (t .entry)) ⌝ }
 {
     let setting = table::setting(t);

@@ -1,2 +1,3 @@
--- What fits a read of either kind.
-pub mod Fit
+-- One more record as the code compares it; how the kept places follow a node's records.
+pub mod Compared
+pub mod Kept

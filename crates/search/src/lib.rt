@@ -1,10 +1,10 @@
-// The search for the newest record of a node that fits a read. In order: whether a record fits, which of two is newer, one more record beside the
-// best so far, all, and what is found. A place is counted from 1, and 0 is none. Nothing of a record is read but what these tests ask.
+// The search for the newest record of a node that fits a page. In order: whether a record fits, one more record beside the best so far, all, what stands at
+// a place, and what is found. A place is counted from 1, and 0 is none. Nothing of a record is read but what these tests ask.
 ghost use mathlib.Core.Path.{_≡_};
-ghost use Prim.Native.Nat.{ℕ, _+_, _≤_, _<_};
+ghost use Prim.Native.Nat.{ℕ, _+_, _*_, _-_, _≤_, _<_};
 ghost use lib.ListN.{length};
-ghost use Rattle.protocol.specs.Record.{Setting, newer, newest};
-ghost use Rattle.protocol.specs.Search.{betterPlace, newestPlace};
+ghost use Rattle.protocol.specs.Record.{Setting, newest};
+ghost use Rattle.protocol.specs.Search.{laterPlace, betterPlace, newestPlace, placed};
 ghost use Rattle.record.specs.RecordBytes.{recordAt};
 ghost use Rattle.parts.specs.Node.{slotAt, heldIn, storeIn};
 ghost use Rattle.search.specs.Found.{fits, foundOf};
@@ -14,10 +14,9 @@ use record::Record;
 use record::bytes;
 use vector::Vector;
 
-// What a read asks of a record: its key and, where `paged`, that it carries no more than the page's vector.
+// What a page asks of a record: its key, and that it carries no more than the page's vector.
 pub struct Wanted {
     pub key: u8,
-    pub paged: bool,
     pub snapshot: Vector,
 }
 
@@ -39,7 +38,7 @@ const BLANK: Record = Record {
     carried: Vector::ZERO,
 };
 
-// Whether the record at `at` is one that the read wants. The key is compared first: it is one byte.
+// Whether the record at `at` is one that the page wants. The key is compared first: it is one byte.
 fn is_candidate(n: &[u8], at: usize, w: Wanted) -> bool
     requires { ⌜ at + 48 ≤ length (now n) ⌝ }
     ensures { λ r. ⌜ r ≡ fits w (recordAt (now (n .entry)) at) ⌝ }
@@ -47,25 +46,43 @@ fn is_candidate(n: &[u8], at: usize, w: Wanted) -> bool
     if codec::load_u8(n, at) != w.key {
         return false;
     }
-    if w.paged {
-        return vector::load_vector(n, at + 16).at_most(w.snapshot);
-    }
-    true
+    vector::load_vector(n, at + 16).at_most(w.snapshot)
 }
 
-// Whether the record at `at` is newer than the one at `other`: R35.
-fn is_newer(n: &[u8], at: usize, other: usize) -> bool
-    requires { ⌜ (at + 48 ≤ length (now n)) × (other + 48 ≤ length (now n)) ⌝ }
-    ensures { λ r. ⌜ ((c : Setting) → r ≡ newer c (recordAt (now (n .entry)) at .id) (recordAt (now (n .entry)) other .id)) ⌝ }
+// The record in slot k, which fits, beside the best so far, where their stamps are equal: the greater source is newer (R35), and of two alike the one that
+// was stored first (R36). The record at a place stands 56 times the place from byte 8; of place 0 what is compared does not matter.
+fn by_source(n: &[u8], k: usize, best: usize) -> usize
+    requires { ⌜ (length (now n) ≡ 1856) × (k < 32) × (best ≤ 32) × (recordAt (now n) (8 + 56 * best) .id .stamp ≡ recordAt (now n) (slotAt k) .id .stamp) ⌝ }
+    ensures { λ r. ⌜ ((c : Setting) → r ≡ laterPlace c (λ i. recordAt (now (n .entry)) (slotAt i)) k best) × (r ≤ 32) ⌝ }
 {
-    let stamp = codec::load_u64(n, at + 8);
-    let than = codec::load_u64(n, other + 8);
-    let source = codec::load_u8(n, at + 1);
-    let than_source = codec::load_u8(n, other + 1);
-    (than < stamp) | ((than == stamp) & (than_source < source))
+    let than = codec::load_u8(n, 8 + 56 * best + 1);
+    let source = codec::load_u8(n, 64 + 56 * k + 1);
+    if (best == 0) | (than < source) {
+        k + 1
+    } else {
+        best
+    }
 }
 
-// The record in slot k beside the best of those before it.
+// The record in slot k, which fits, beside the best so far. Equal stamps are seldom, so a processor guesses that test right; which of two stamps is greater it
+// would guess wrong every other time, so both tests are made.
+pub fn later(n: &[u8], k: usize, best: usize) -> usize
+    requires { ⌜ (length (now n) ≡ 1856) × (k < 32) × (best ≤ 32) ⌝ }
+    ensures { λ r. ⌜ ((c : Setting) → r ≡ laterPlace c (λ i. recordAt (now (n .entry)) (slotAt i)) k best) × (r ≤ 32) ⌝ }
+{
+    let than = codec::load_u64(n, 8 + 56 * best + 8);
+    let stamp = codec::load_u64(n, 64 + 56 * k + 8);
+    if than == stamp {
+        return by_source(n, k, best);
+    }
+    if (best == 0) | (than < stamp) {
+        k + 1
+    } else {
+        best
+    }
+}
+
+// The record in slot k, which fits or not, beside the best of those before it.
 fn better(n: &[u8], k: usize, best: usize, w: Wanted) -> usize
     requires { ⌜ (length (now n) ≡ 1856) × (k < 32) × (best ≤ k) ⌝ }
     ensures { λ r. ⌜ ((c : Setting) → r ≡ betterPlace c (fits w) (λ i. recordAt (now (n .entry)) (slotAt i)) k best) ⌝ }
@@ -73,14 +90,7 @@ fn better(n: &[u8], k: usize, best: usize, w: Wanted) -> usize
     if !is_candidate(n, 64 + 56 * k, w) {
         return best;
     }
-    if best == 0 {
-        return k + 1;
-    }
-    if is_newer(n, 64 + 56 * k, 64 + 56 * (best - 1)) {
-        k + 1
-    } else {
-        best
-    }
+    later(n, k, best)
 }
 
 // The place of the newest of the first `held` records of a node that fits.
@@ -97,13 +107,11 @@ fn newest_place(n: &[u8], held: usize, w: Wanted) -> usize
     best
 }
 
-// The newest record of a node that fits.
-pub fn newest(n: &[u8], w: Wanted) -> Found
-    requires { ⌜ (length (now n) ≡ 1856) × (heldIn (now n) ≤ 32) × ((k : ℕ) → k < heldIn (now n) → recordAt (now n) (slotAt k) .id .source < 4) ⌝ }
-    ensures { λ r. ⌜ ((c : Setting) → foundOf r ≡ newest c (fits w) (storeIn (now (n .entry)))) × (r .newest .numbers .source < 4) ⌝ }
+// What stands at a place.
+pub fn found_at(n: &[u8], place: usize) -> Found
+    requires { ⌜ (length (now n) ≡ 1856) × (place ≤ 32) × (0 < place → recordAt (now n) (slotAt (place - 1)) .id .source < 4) ⌝ }
+    ensures { λ r. ⌜ (foundOf r ≡ placed (λ i. recordAt (now (n .entry)) (slotAt i)) place) × (r .newest .numbers .source < 4) ⌝ }
 {
-    let held = nodes::held(n) as usize;
-    let place = newest_place(n, held, w);
     if place == 0 {
         return Found {
             found: false,
@@ -114,4 +122,13 @@ pub fn newest(n: &[u8], w: Wanted) -> Found
         found: true,
         newest: bytes::load_record(n, 64 + 56 * (place - 1)),
     }
+}
+
+// The newest record of a node that fits.
+pub fn newest(n: &[u8], w: Wanted) -> Found
+    requires { ⌜ (length (now n) ≡ 1856) × (heldIn (now n) ≤ 32) × ((k : ℕ) → k < heldIn (now n) → recordAt (now n) (slotAt k) .id .source < 4) ⌝ }
+    ensures { λ r. ⌜ ((c : Setting) → foundOf r ≡ newest c (fits w) (storeIn (now (n .entry)))) × (r .newest .numbers .source < 4) ⌝ }
+{
+    let held = nodes::held(n) as usize;
+    found_at(n, newest_place(n, held, w))
 }

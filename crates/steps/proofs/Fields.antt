@@ -9,7 +9,7 @@ use mir.Facts.{T-not, and-yes, ltb-yes, leb-yes}
 use Rattle.codec.specs.Le.{load}
 use Rattle.codec.proofs.Tests.{yes-eqb}
 use Rattle.event.specs.declared.Fields.{Fields}
-use Rattle.event.specs.Fields.{site, partition, session, from, count, uses}
+use Rattle.event.specs.Fields.{site, partition, session, key, from, count, uses}
 use Rattle.event.specs.Ranges.{inRange}
 use Rattle.event.specs.Meaning.{fieldsIn, eventFor}
 use Rattle.event.specs.Event.{eventOf}
@@ -29,6 +29,10 @@ module _ (t e : List ℕ) (x : Fields) (q : x ≡ fieldsIn e) (l : Lawful (setti
   pub session-in : T (uses (n - 1) session) → x .session < 16
   unfolding inRange
   session-in u = ltb-yes (used-in-range (settingIn t) e x q l n h session (omega arith) u)
+
+  pub key-in : T (uses (n - 1) key) → x .key < 64
+  unfolding inRange
+  key-in u = ltb-yes (used-in-range (settingIn t) e x q l n h key (omega arith) u)
 
   pub site-in : T (uses (n - 1) site) → x .site < load 1 t 0
   unfolding inRange

@@ -105,7 +105,7 @@ module _ (n : ℕ) (t e : List ℕ) (d : Decided) (S : Sound n t) (l : T (codeLa
   decided-step = step-met (decode t) (eventOf e) (unfold decode in (and-yes (unusedZero e) (met (ranges (settingIn t) (eventOf e))) f .1)) ∙ sym says
 
   pub decided-fits : FitsAll (changesOf (d .effect) (d .carried) (d .session)) t
-  decided-fits = subst (λ o. FitsAll (o .changes) t) decided-step (step-fits t (S .long) (S .bytes) (S .formed) (eventOf e))
+  decided-fits = subst (λ o. FitsAll (o .changes) t) decided-step (step-fits t (S .whole) (S .bytes) (S .formed) (eventOf e))
 
   pub decided-gives : stepOn t e ≡ gives (d .answer) (putChanges (changesOf (d .effect) (d .carried) (d .session)) t)
   decided-gives = fields-lawful-step t e l f ∙ ap (λ o. gives (o .says) (putChanges (o .changes) t)) (sym says)

@@ -1,7 +1,5 @@
 // A decision carried out: the changes of its effect, on the table's bytes. It writes what the decision holds, and reads nothing to decide.
 ghost use mathlib.Core.Path.{_≡_};
-ghost use Prim.Native.Nat.{_≤_};
-ghost use Rattle.codec.specs.Le.{load};
 ghost use Rattle.table.specs.Parts.{Long};
 ghost use Rattle.table.specs.Put.{putChanges};
 ghost use Rattle.table.specs.Fits.{FitsAll};
@@ -13,7 +11,7 @@ use record::Message;
 use vector::Vector;
 
 pub fn carry_out(t: &mut [u8], d: Decided)
-    requires { ⌜ Long (now t) × (1 ≤ load 1 (now t) 0) × (load 1 (now t) 0 ≤ 4) × FitsAll (changesOf (d .effect) (d .carried) (d .session)) (now t) ⌝ }
+    requires { ⌜ Long (now t) × FitsAll (changesOf (d .effect) (d .carried) (d .session)) (now t) ⌝ }
     ensures { λ _. ⌜ now (t .exit) ≡ putChanges (changesOf (d .effect) (d .carried) (d .session)) (now (t .entry)) ⌝ }
 {
     let effect = d.effect;

@@ -5,7 +5,7 @@ ghost use mathlib.Core.Bool.{true};
 ghost use lib.Dec.{T};
 ghost use lib.ListN.{length};
 ghost use Rattle.event.specs.Event.{codeLawful, eventOf};
-ghost use Rattle.table.specs.Parts.{Long};
+ghost use Rattle.table.specs.Parts.{Whole};
 ghost use Rattle.table.specs.Decode.{decode};
 ghost use Rattle.lawful.specs.WellFormed.{wellFormed};
 ghost use Rattle.outcome.specs.Decided.{outcomeOf};
@@ -23,7 +23,7 @@ pub mod runs;
 
 // What the protocol decides of an event whose code and fields are lawful.
 pub fn decide(t: &[u8], e: &[u8]) -> Decided
-    requires { ⌜ Long (now t) × T (wellFormed (now t)) × (length (now e) ≡ 32) × (codeLawful (now e) ≡ true) × (fieldsTest (now t) (now e) ≡ true) ⌝ }
+    requires { ⌜ Whole (now t) × T (wellFormed (now t)) × (length (now e) ≡ 32) × (codeLawful (now e) ≡ true) × (fieldsTest (now t) (now e) ≡ true) ⌝ }
     ensures { λ r. ⌜ outcomeOf r ≡ answered (decode (now (t .entry))) (eventOf (now (e .entry))) ⌝ }
 {
     let x = event::load_fields(e);
@@ -51,7 +51,7 @@ pub fn decide(t: &[u8], e: &[u8]) -> Decided
 }
 
 pub fn step(t: &mut [u8], e: &[u8]) -> Answer
-    requires { ⌜ Long (now t) × T (wellFormed (now t)) × (length (now e) ≡ 32) ⌝ }
+    requires { ⌜ Whole (now t) × T (wellFormed (now t)) × (length (now e) ≡ 32) ⌝ }
     ensures { λ r. ⌜ gives r (now (t .exit)) ≡ stepOn (now (t .entry)) (now (e .entry)) ⌝ }
 {
     if !event::code_lawful(e) {

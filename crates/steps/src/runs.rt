@@ -6,7 +6,7 @@ ghost use mathlib.Core.Bool.{cond};
 ghost use mathlib.Core.List.{List};
 ghost use lib.Dec.{T, eqb};
 ghost use lib.ListN.{length};
-ghost use Rattle.table.specs.Parts.{Long};
+ghost use Rattle.table.specs.Parts.{Whole};
 ghost use Rattle.lawful.specs.WellFormed.{wellFormed};
 ghost use Rattle.steps.specs.Step.{gives};
 ghost use Rattle.steps.specs.Run.{ran, pieceAnswered, runBy, pieceCall, pieceRefused};
@@ -15,7 +15,7 @@ use protocol::Answer;
 
 // A piece of the event bytes: all but the last have 32 bytes.
 fn piece(t: &mut [u8], e: &[u8]) -> Answer
-    requires { ⌜ Long (now t) × T (wellFormed (now t)) ⌝ }
+    requires { ⌜ Whole (now t) × T (wellFormed (now t)) ⌝ }
     ensures { λ r. ⌜ gives r (now (t .exit)) ≡ pieceCall (now (t .entry)) (now (e .entry)) ⌝ }
 {
     if e.len() == 32 {
@@ -27,7 +27,7 @@ fn piece(t: &mut [u8], e: &[u8]) -> Answer
 
 // Piece i, and its answer.
 fn answer_piece(t: &mut [u8], es: &[u8], b: &mut [u8], i: usize)
-    requires { ⌜ Long (now t) × T (wellFormed (now t)) × (16 * i + 16 ≤ length (now b)) ⌝ }
+    requires { ⌜ Whole (now t) × T (wellFormed (now t)) × (16 * i + 16 ≤ length (now b)) ⌝ }
     ensures { λ _. ⌜ ran (now (t .exit)) (now (b .exit)) ≡ pieceAnswered pieceCall i (now (t .entry)) (now (es .entry)) (now (b .entry)) ⌝ }
 {
     let a = piece(t, reader::event_of(es, i));
@@ -36,7 +36,7 @@ fn answer_piece(t: &mut [u8], es: &[u8], b: &mut [u8], i: usize)
 
 // The first n pieces.
 pub fn run(t: &mut [u8], es: &[u8], b: &mut [u8], n: usize)
-    requires { ⌜ Long (now t) × T (wellFormed (now t)) × (16 * n ≤ length (now b)) ⌝ }
+    requires { ⌜ Whole (now t) × T (wellFormed (now t)) × (16 * n ≤ length (now b)) ⌝ }
     ensures { λ _. ⌜ ran (now (t .exit)) (now (b .exit)) ≡ runBy pieceCall n (now (t .entry)) (now (es .entry)) (now (b .entry)) ⌝ }
 {
     let mut i = 0;

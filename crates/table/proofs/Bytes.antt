@@ -1,5 +1,5 @@
 -- Every change of a table of bytes gives bytes. In order: lists, a number and what is made of numbers, and from a thing up to the table.
-use Prim.Native.Nat.{ℕ, zero, suc, _+_, _*_, _-_, _/_, _%_, max}
+use Prim.Native.Nat.{ℕ, zero, suc, _+_, _*_, _-_, _/_, _%_, _<_, max}
 use native.Mathlib.Omega.{arith}
 use mathlib.Core.List.{List, [], _∷_, _++_}
 use lib.ListN.{set, take, drop}
@@ -7,21 +7,26 @@ use lib.Seq.{getD-drop}
 use mir.Syntax.{w8}
 use mir.Val.{Fits}
 use mir.Facts.{fits-lit, fits-below}
-use Rattle.codec.specs.Le.{load, put, Bytes}
+use Rattle.codec.specs.Le.{load, put, span, Bytes}
+use Rattle.codec.specs.Tabulate.{tabulate}
 use Rattle.codec.specs.Fields.{Field, field, putAll}
 use Rattle.codec.specs.Part.{partOf, onPart}
+use Rattle.codec.proofs.Le.{load-lt}
 use Rattle.vector.specs.Vec.{Vec, width}
 use Rattle.vector.specs.Entries.{putFirst, putVec}
-use Rattle.protocol.specs.Record.{Rec, Msg, Update, Heartbeat, stampIn}
+use Rattle.protocol.specs.Record.{Setting, Rec, Msg, Update, Heartbeat, stampIn}
 use Rattle.protocol.specs.State.{Mark, Session}
 use Rattle.protocol.specs.Change.{Change, SetSession, SetClock, Publish, Receive}
 use Rattle.record.specs.RecordBytes.{recordFields, putRecord, beat, putMessage}
 use Rattle.parts.specs.Node.{heldIn, slotAt, clockSet, stored, published, received}
 use Rattle.parts.specs.Channel.{frontIn, waitIn, ringAt, pushed, popped}
 use Rattle.parts.specs.Session.{flag, putMarks, headFields, putSession}
-use Rattle.table.specs.Parts.{sessionAt, siteAt, nodeAt, channelAt, placeOf, onSession, onSite, onNode, onChannel}
-use Rattle.table.specs.Put.{sentTo, publishedOn, putChange, putChanges}
-use Rattle.table.proofs.Parts.{part-every}
+use Rattle.search.specs.Kept.{placeIn, placesIn}
+use Rattle.search.proofs.Kept.{place-held}
+use Rattle.table.specs.Parts.{sessionAt, siteAt, nodeAt, channelAt, keptAt, placeOf, siteOf, nodeOf, onSession, onSite, onNode, onChannel, onKept}
+use Rattle.table.specs.Decode.{settingIn}
+use Rattle.table.specs.Put.{sentTo, publishedOn, putCore, keptAnew, keptAfter, putChange, putChanges}
+use Rattle.table.proofs.Parts.{part-every, bytes-nodeOf}
 
 -- f of bytes is bytes
 abbrev pub Gives : (List ℕ → List ℕ) → Type 0
@@ -41,6 +46,11 @@ bytes-set : (s : List ℕ) (i x : ℕ) → Fits w8 x → Bytes s → Bytes (set 
 bytes-set [] i x h all = all
 bytes-set (y ∷ s) zero x h all = bytes-cons x s h (λ i. all (suc i))
 bytes-set (y ∷ s) (suc i) x h all = bytes-cons y (set s i x) (all 0) (bytes-set s i x h (λ j. all (suc j)))
+
+bytes-tabulate : (n : ℕ) (f : ℕ → ℕ) → ((i : ℕ) → f i < 256) → Bytes (tabulate n f)
+unfolding tabulate
+bytes-tabulate zero f h = λ i. fits-lit tt
+bytes-tabulate (suc n) f h = bytes-cons (f 0) (tabulate n (λ i. f (suc i))) (fits-below {n = 255} tt (omega (arith, h 0))) (bytes-tabulate n (λ i. f (suc i)) (λ i. h (suc i)))
 
 bytes-drop : (n : ℕ) (s : List ℕ) → Bytes s → Bytes (drop n s)
 bytes-drop n s all i = rw (getD-drop n s i 0) (all (n + i))
@@ -151,14 +161,37 @@ unfolding publishedOn
 bytes-publishedOn n m p x s all =
     bytes-sentTo n m p x (onNode p (published m x) s) (bytes-onNode p (published m x) (bytes-published m x) s all)
 
-pub bytes-putChange : (c : Change) → Gives (putChange c)
-unfolding putChange onSession
-bytes-putChange (SetSession s x) t = bytes-onPart (sessionAt s) 128 (putSession x) (bytes-putSession x) t
-bytes-putChange (SetClock m p c) t = bytes-onSite m (onNode p (clockSet c)) (bytes-onNode p (clockSet c) (bytes-clockSet c)) t
-bytes-putChange (Publish m p x) t = bytes-onSite m (publishedOn (load 1 t 0 - 1) m p x) (bytes-publishedOn (load 1 t 0 - 1) m p x) t
-bytes-putChange (Receive i m p x) t = λ all.
+bytes-core : (c : Change) → Gives (putCore c)
+unfolding putCore onSession
+bytes-core (SetSession s x) t = bytes-onPart (sessionAt s) 128 (putSession x) (bytes-putSession x) t
+bytes-core (SetClock m p c) t = bytes-onSite m (onNode p (clockSet c)) (bytes-onNode p (clockSet c) (bytes-clockSet c)) t
+bytes-core (Publish m p x) t = bytes-onSite m (publishedOn (load 1 t 0 - 1) m p x) (bytes-publishedOn (load 1 t 0 - 1) m p x) t
+bytes-core (Receive i m p x) t = λ all.
     bytes-onSite i (onChannel p (placeOf i m) popped) (bytes-onChannel p (placeOf i m) popped bytes-popped) (onSite m (onNode p (received i x)) t)
     (bytes-onSite m (onNode p (received i x)) (bytes-onNode p (received i x) (bytes-received i x)) t all)
+
+bytes-anew : (m p : ℕ) → Gives (keptAnew m p)
+unfolding keptAnew onKept placesIn
+bytes-anew m p t all =
+    let n = nodeOf (siteOf t m) p in
+    let c = settingIn t in
+    bytes-onPart (keptAt m p) 64 (λ s. tabulate 64 (placeIn c n)) (λ s b. bytes-tabulate 64 (placeIn c n) (λ k. small c n (bytes-nodeOf t all m p) k)) t all
+  where
+    small : (c : Setting) (n : List ℕ) → Bytes n → (k : ℕ) → placeIn c n k < 256
+    small c n b k =
+        let held : heldIn n < 256 = unfold heldIn span in load-lt 1 n 40 b in
+        omega (arith, place-held c n k)
+
+bytes-after : (c : Change) → Gives (keptAfter c)
+unfolding keptAfter
+bytes-after (SetSession s x) t all = all
+bytes-after (SetClock m p c) t all = all
+bytes-after (Publish m p x) t all = bytes-anew m p t all
+bytes-after (Receive i m p x) t all = bytes-anew m p t all
+
+pub bytes-putChange : (c : Change) → Gives (putChange c)
+unfolding putChange
+bytes-putChange c t all = bytes-after c (putCore c t) (bytes-core c t all)
 
 pub bytes-putChanges : (cs : List Change) → Gives (putChanges cs)
 unfolding putChanges

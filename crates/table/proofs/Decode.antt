@@ -1,5 +1,5 @@
--- What a table says after a change is what the change makes of what it said. In order: the state field by field, each of the four changes, then the
--- laws for any change and for many. That changes keep bytes is in Bytes; a fresh table is in Fresh.
+-- What a table says after a change is what the change makes of what it said. In order: what is read of a node or a channel that changed, each of the four
+-- changes but for the kept places, then the laws for any change and for many. That changes keep bytes is in Bytes; a fresh table is in Fresh.
 use Prim.Native.Nat.{ℕ, _-_, _≤_, _<_}
 use native.Mathlib.Omega.{arith}
 use mathlib.Core.Path.{_≡_, refl, sym, ap, _∙_}
@@ -14,7 +14,7 @@ use Rattle.codec.proofs.Tests.{cond-no, cond-both}
 use Rattle.vector.specs.Vec.{withEntry, atLeast}
 use Rattle.protocol.specs.Record.{Msg, stampIn, recordsIn}
 use Rattle.protocol.specs.Shelf.{shelve}
-use Rattle.protocol.specs.State.{Session, State}
+use Rattle.protocol.specs.State.{Session}
 use Rattle.protocol.specs.Change.{Change, SetSession, SetClock, Publish, Receive, upd, at, setClock, publish, receive, apply, applyAll}
 use Rattle.parts.specs.Node.{clockIn, heardIn, storeIn, clockSet, published, received}
 use Rattle.parts.specs.Channel.{queueIn, pushed, popped}
@@ -25,10 +25,11 @@ use Rattle.parts.proofs.ChannelBytes.{queue-pushed, queue-popped}
 use Rattle.parts.proofs.SessionBytes.{session-putSession}
 use Rattle.table.specs.Parts.{Long, placeOf, sessionOf, siteOf, nodeOf, channelOf, onSite, onNode, onChannel}
 use Rattle.table.specs.Decode.{settingIn, decode}
-use Rattle.table.specs.Put.{publishedOn, putChange, putChanges}
+use Rattle.table.specs.Put.{publishedOn, putCore, putChange, putChanges}
 use Rattle.table.specs.Fits.{FitsPublish, FitsReceive, Fits, FitsAll}
 use Rattle.table.proofs.Parts.{long-still, length-session, length-onSession, session-onSession, site-onSession, load-onSession, length-onSite, session-onSite, load-onSite, bytes-nodeOf, bytes-channelOf, length-nodeOf, length-channelOf}
 use Rattle.table.proofs.Changes.{at-yes, sent, sentBy, sentBy-yes, sent-sentBy, taken, takenFrom, taken-takenFrom, place-lt, onNode-keeps, node-atNode, channel-atNode, onChannel-keeps, node-atChannel, channel-atChannel, publishedOn-keeps, node-atPublish, channel-atPublish}
+use Rattle.table.proofs.KeptPlaces.{state-ext, length-anew, setting-anew, decode-anew, after-elim}
 
 -- ---- a change keeps a thing's length
 
@@ -44,15 +45,7 @@ received-keeps i x s e = length-received i x s ∙ e
 popped-keeps : Keeps 464 popped
 popped-keeps s e = length-popped s ∙ e
 
--- ---- the state, field by field
-
-pub state-ext : (S U : State) → S .net .setting ≡ U .net .setting → ((m p : ℕ) → S .net .clock m p ≡ U .net .clock m p) → ((m p : ℕ) → S .net .heard m p ≡ U .net .heard m p) → ((m p : ℕ) → S .net .store m p ≡ U .net .store m p)
-    → ((i m p : ℕ) → S .net .chan i m p ≡ U .net .chan i m p) → ((s : ℕ) → S .session s ≡ U .session s) → S ≡ U
-state-ext S U setting clock heard store chan session = λ z.
-    record {
-      net = record { setting = setting z; clock = λ m p. clock m p z; heard = λ m p. heard m p z; store = λ m p. store m p z; chan = λ i m p. chan i m p z };
-      session = λ s. session s z;
-    }
+-- ---- choices, and what is read of a node or a channel that changed
 
 at-elim {ℓ} : (P : ℕ → ℕ → Type ℓ) (m p j q : ℕ) → P m p → T (at m p j q) → P j q
 at-elim P m p j q h b = let same = at-yes m p j q b in rw (same .0, same .1) h
@@ -122,32 +115,32 @@ module _ (t : List ℕ) (m : ℕ) (f : List ℕ → List ℕ) (l : Long t) (h : 
 -- ---- a session is set
 
 module _ (s : ℕ) (x : Session) (t : List ℕ) (l : Long t) (fit : Fits (SetSession s x) t) where
-  length-setSession : length (putChange (SetSession s x) t) ≡ length t
-  unfolding putChange
+  length-setSession : length (putCore (SetSession s x) t) ≡ length t
+  unfolding putCore
   length-setSession = length-onSession t s (putSession x) l (fit .0) (putSession-keeps x)
 
-  setting-setSession : settingIn (putChange (SetSession s x) t) ≡ settingIn t
-  unfolding putChange
+  setting-setSession : settingIn (putCore (SetSession s x) t) ≡ settingIn t
+  unfolding putCore
   setting-setSession = λ z. record {
     sites = load-onSession t s (putSession x) l (fit .0) (putSession-keeps x) 1 0 (omega arith) z;
     partitions = load-onSession t s (putSession x) l (fit .0) (putSession-keeps x) 1 1 (omega arith) z;
   }
 
-  site-setSession : (m : ℕ) → siteOf (putChange (SetSession s x) t) m ≡ siteOf t m
-  unfolding putChange
+  site-setSession : (m : ℕ) → siteOf (putCore (SetSession s x) t) m ≡ siteOf t m
+  unfolding putCore
   site-setSession m = site-onSession t s (putSession x) l (fit .0) (putSession-keeps x) m
 
-  session-setSession : (r : ℕ) → sessionIn (sessionOf (putChange (SetSession s x) t) r) ≡ upd (λ i. sessionIn (sessionOf t i)) s x r
-  unfolding putChange upd
+  session-setSession : (r : ℕ) → sessionIn (sessionOf (putCore (SetSession s x) t) r) ≡ upd (λ i. sessionIn (sessionOf t i)) s x r
+  unfolding putCore upd
   session-setSession r =
       ap sessionIn (session-onSession t s (putSession x) l (fit .0) (putSession-keeps x) r)
       ∙ cond-read sessionIn (eqb r s) (putSession x (sessionOf t r)) (sessionOf t r) x
       (λ e. let q : r ≡ s = eqb-yes e in session-putSession x (sessionOf t r) (length-session t r l (omega (arith, fit .0))) (fit .1))
 
-  decode-setSession : decode (putChange (SetSession s x) t) ≡ apply (SetSession s x) (decode t)
+  decode-setSession : decode (putCore (SetSession s x) t) ≡ apply (SetSession s x) (decode t)
   unfolding decode apply
   decode-setSession =
-      let u = putChange (SetSession s x) t in
+      let u = putCore (SetSession s x) t in
       state-ext (decode u) (apply (SetSession s x) (decode t))
       setting-setSession
       (λ m p. ap (λ b. clockIn (nodeOf b p)) (site-setSession m))
@@ -162,18 +155,18 @@ module _ (m p c : ℕ) (t : List ℕ) (l : Long t) (fit : Fits (SetClock m p c) 
   keeps-setClock : Keeps 13056 (onNode p (clockSet c))
   keeps-setClock = onNode-keeps t m p (clockSet c) l (fit .0) (fit .1) (clockSet-keeps c)
 
-  length-setClock : length (putChange (SetClock m p c) t) ≡ length t
-  unfolding putChange
+  length-setClock : length (putCore (SetClock m p c) t) ≡ length t
+  unfolding putCore
   length-setClock = length-onSite t m (onNode p (clockSet c)) l (fit .0) keeps-setClock
 
-  setting-setClock : settingIn (putChange (SetClock m p c) t) ≡ settingIn t
-  unfolding putChange
+  setting-setClock : settingIn (putCore (SetClock m p c) t) ≡ settingIn t
+  unfolding putCore
   setting-setClock = setting-site t m (onNode p (clockSet c)) l (fit .0) keeps-setClock
 
-  decode-setClock : decode (putChange (SetClock m p c) t) ≡ apply (SetClock m p c) (decode t)
-  unfolding decode apply setClock putChange
+  decode-setClock : decode (putCore (SetClock m p c) t) ≡ apply (SetClock m p c) (decode t)
+  unfolding decode apply setClock putCore
   decode-setClock =
-      let u = putChange (SetClock m p c) t in
+      let u = putCore (SetClock m p c) t in
       let n = nodeOf (siteOf t m) p in
       let step = node-atNode t m p (clockSet c) l (fit .0) (fit .1) (clockSet-keeps c) in
       state-ext (decode u) (apply (SetClock m p c) (decode t))
@@ -196,12 +189,12 @@ module _ (m p : ℕ) (x : Msg) (t : List ℕ) (l : Long t) (fit : FitsPublish m 
   keeps-publish : Keeps 13056 (publishedOn (load 1 t 0 - 1) m p x)
   keeps-publish = publishedOn-keeps t (load 1 t 0 - 1) m p x l there (fit .partition) few
 
-  length-publish : length (putChange (Publish m p x) t) ≡ length t
-  unfolding putChange
+  length-publish : length (putCore (Publish m p x) t) ≡ length t
+  unfolding putCore
   length-publish = length-onSite t m (publishedOn (load 1 t 0 - 1) m p x) l there keeps-publish
 
-  setting-publish : settingIn (putChange (Publish m p x) t) ≡ settingIn t
-  unfolding putChange
+  setting-publish : settingIn (putCore (Publish m p x) t) ≡ settingIn t
+  unfolding putCore
   setting-publish = setting-site t m (publishedOn (load 1 t 0 - 1) m p x) l there keeps-publish
 
   sends : (i q e : ℕ) → T (sent (load 1 t 0) m p i q e) → queueIn (pushed m x (channelOf (siteOf t i) q e)) ≡ queueIn (channelOf (siteOf t i) q e) ++ (x ∷ [])
@@ -219,10 +212,10 @@ module _ (m p : ℕ) (x : Msg) (t : List ℕ) (l : Long t) (fit : FitsPublish m 
       let all = sentBy-yes (load 1 t 0) m p i j q b in
       T-not (isWay i j) (yes-way i j (omega (arith, fit .sites)) (λ e. all .3 (omega arith))) w)
 
-  decode-publish : decode (putChange (Publish m p x) t) ≡ apply (Publish m p x) (decode t)
-  unfolding decode apply publish shelve putChange
+  decode-publish : decode (putCore (Publish m p x) t) ≡ apply (Publish m p x) (decode t)
+  unfolding decode apply publish shelve putCore
   decode-publish =
-      let u = putChange (Publish m p x) t in
+      let u = putCore (Publish m p x) t in
       let n = nodeOf (siteOf t m) p in
       let long = length-nodeOf t m p l there (fit .partition) in
       let step = node-atPublish t (load 1 t 0 - 1) m p x l there (fit .partition) few in
@@ -253,31 +246,31 @@ module _ (i m p : ℕ) (x : Msg) (t : List ℕ) (l : Long t) (fit : FitsReceive 
   keeps-channel : Keeps 13056 (onChannel p (placeOf i m) popped)
   keeps-channel = onChannel-keeps (onSite m (onNode p (received i x)) t) i p (placeOf i m) popped long-node (fit .source) (fit .partition) near popped-keeps
 
-  length-receive : length (putChange (Receive i m p x) t) ≡ length t
-  unfolding putChange
+  length-receive : length (putCore (Receive i m p x) t) ≡ length t
+  unfolding putCore
   length-receive =
       length-onSite (onSite m (onNode p (received i x)) t) i (onChannel p (placeOf i m) popped) long-node (fit .source) keeps-channel ∙ length-node
 
-  setting-receive : settingIn (putChange (Receive i m p x) t) ≡ settingIn t
-  unfolding putChange
+  setting-receive : settingIn (putCore (Receive i m p x) t) ≡ settingIn t
+  unfolding putCore
   setting-receive =
       setting-site (onSite m (onNode p (received i x)) t) i (onChannel p (placeOf i m) popped) long-node (fit .source) keeps-channel
       ∙ setting-site t m (onNode p (received i x)) l (fit .site) keeps-node
 
-  session-receive : (s : ℕ) → sessionIn (sessionOf (putChange (Receive i m p x) t) s) ≡ sessionIn (sessionOf t s)
-  unfolding putChange
+  session-receive : (s : ℕ) → sessionIn (sessionOf (putCore (Receive i m p x) t) s) ≡ sessionIn (sessionOf t s)
+  unfolding putCore
   session-receive s =
       sessions-site (onSite m (onNode p (received i x)) t) i (onChannel p (placeOf i m) popped) long-node (fit .source) keeps-channel s
       ∙ sessions-site t m (onNode p (received i x)) l (fit .site) keeps-node s
 
-  node-receive : (j q : ℕ) → nodeOf (siteOf (putChange (Receive i m p x) t) j) q ≡ cond (at m p j q) (received i x (nodeOf (siteOf t j) q)) (nodeOf (siteOf t j) q)
-  unfolding putChange
+  node-receive : (j q : ℕ) → nodeOf (siteOf (putCore (Receive i m p x) t) j) q ≡ cond (at m p j q) (received i x (nodeOf (siteOf t j) q)) (nodeOf (siteOf t j) q)
+  unfolding putCore
   node-receive j q =
       node-atChannel (onSite m (onNode p (received i x)) t) i p (placeOf i m) popped long-node (fit .source) (fit .partition) near popped-keeps j q
       ∙ node-atNode t m p (received i x) l (fit .site) (fit .partition) (received-keeps i x) j q
 
-  channel-receive : (h q e : ℕ) → channelOf (siteOf (putChange (Receive i m p x) t) h) q e ≡ cond (taken i m p h q e) (popped (channelOf (siteOf t h) q e)) (channelOf (siteOf t h) q e)
-  unfolding putChange
+  channel-receive : (h q e : ℕ) → channelOf (siteOf (putCore (Receive i m p x) t) h) q e ≡ cond (taken i m p h q e) (popped (channelOf (siteOf t h) q e)) (channelOf (siteOf t h) q e)
+  unfolding putCore
   channel-receive h q e =
       channel-atChannel (onSite m (onNode p (received i x)) t) i p (placeOf i m) popped long-node (fit .source) (fit .partition) near popped-keeps h q e
       ∙ ap (λ c. cond (taken i m p h q e) (popped c) c) (channel-atNode t m p (received i x) l (fit .site) (fit .partition) (received-keeps i x) h q e)
@@ -291,10 +284,10 @@ module _ (i m p : ℕ) (x : Msg) (t : List ℕ) (l : Long t) (fit : FitsReceive 
       (length-channelOf t h q l (omega (arith, fit .source)) (omega (arith, fit .partition)) e (omega (arith, near)))
       (bytes-channelOf t (fit .bytes) h q e)
 
-  decode-receive : decode (putChange (Receive i m p x) t) ≡ apply (Receive i m p x) (decode t)
+  decode-receive : decode (putCore (Receive i m p x) t) ≡ apply (Receive i m p x) (decode t)
   unfolding decode apply receive shelve
   decode-receive =
-      let u = putChange (Receive i m p x) t in
+      let u = putCore (Receive i m p x) t in
       let n = nodeOf (siteOf t m) p in
       let long = length-nodeOf t m p l (fit .site) (fit .partition) in
       let bytes = bytes-nodeOf t (fit .bytes) m p in
@@ -308,25 +301,46 @@ module _ (i m p : ℕ) (x : Msg) (t : List ℕ) (l : Long t) (fit : FitsReceive 
       (λ h j q w. sym (cond-both (takenFrom i m p h j q) [])))
       session-receive
 
+-- ---- any change, but for the kept places
+
+pub length-putCore : (c : Change) (t : List ℕ) → Long t → Fits c t → length (putCore c t) ≡ length t
+length-putCore (SetSession s x) = length-setSession s x
+length-putCore (SetClock m p c) = length-setClock m p c
+length-putCore (Publish m p x) = length-publish m p x
+length-putCore (Receive i m p x) = length-receive i m p x
+
+pub setting-core : (c : Change) (t : List ℕ) → Long t → Fits c t → settingIn (putCore c t) ≡ settingIn t
+setting-core (SetSession s x) = setting-setSession s x
+setting-core (SetClock m p c) = setting-setClock m p c
+setting-core (Publish m p x) = setting-publish m p x
+setting-core (Receive i m p x) = setting-receive i m p x
+
+pub decode-core : (c : Change) (t : List ℕ) → Long t → Fits c t → decode (putCore c t) ≡ apply c (decode t)
+decode-core (SetSession s x) = decode-setSession s x
+decode-core (SetClock m p c) = decode-setClock m p c
+decode-core (Publish m p x) = decode-publish m p x
+decode-core (Receive i m p x) = decode-receive i m p x
+
 -- ---- any change, and many
 
-pub length-putChange : (c : Change) (t : List ℕ) → Long t → Fits c t → length (putChange c t) ≡ length t
-length-putChange (SetSession s x) = length-setSession s x
-length-putChange (SetClock m p c) = length-setClock m p c
-length-putChange (Publish m p x) = length-publish m p x
-length-putChange (Receive i m p x) = length-receive i m p x
+module _ (c : Change) (t : List ℕ) (l : Long t) (fit : Fits c t) where
+  pub length-putChange : length (putChange c t) ≡ length t
+  unfolding putChange
+  length-putChange =
+      let e = length-putCore c t l fit in
+      after-elim (λ u. length u ≡ length t) c t (putCore c t) fit e e (λ m p w h g. length-anew (putCore c t) m p w h g ∙ e)
 
-pub setting-put : (c : Change) (t : List ℕ) → Long t → Fits c t → settingIn (putChange c t) ≡ settingIn t
-setting-put (SetSession s x) = setting-setSession s x
-setting-put (SetClock m p c) = setting-setClock m p c
-setting-put (Publish m p x) = setting-publish m p x
-setting-put (Receive i m p x) = setting-receive i m p x
+  pub setting-put : settingIn (putChange c t) ≡ settingIn t
+  unfolding putChange
+  setting-put =
+      let e = setting-core c t l fit in
+      after-elim (λ u. settingIn u ≡ settingIn t) c t (putCore c t) fit (length-putCore c t l fit) e (λ m p w h g. setting-anew (putCore c t) m p w h g ∙ e)
 
-pub decode-put : (c : Change) (t : List ℕ) → Long t → Fits c t → decode (putChange c t) ≡ apply c (decode t)
-decode-put (SetSession s x) = decode-setSession s x
-decode-put (SetClock m p c) = decode-setClock m p c
-decode-put (Publish m p x) = decode-publish m p x
-decode-put (Receive i m p x) = decode-receive i m p x
+  pub decode-put : decode (putChange c t) ≡ apply c (decode t)
+  unfolding putChange
+  decode-put =
+      let e = decode-core c t l fit in
+      after-elim (λ u. decode u ≡ apply c (decode t)) c t (putCore c t) fit (length-putCore c t l fit) e (λ m p w h g. decode-anew (putCore c t) m p w h g ∙ e)
 
 pub length-putChanges : (cs : List Change) (t : List ℕ) → Long t → FitsAll cs t → length (putChanges cs t) ≡ length t
 unfolding putChanges

@@ -27,7 +27,7 @@ use Rattle.table.specs.Decode.{settingIn, decode}
 use Rattle.table.specs.Put.{fresh}
 use Rattle.table.proofs.Parts.{Every, every-session, every-site, every-node, every-channel}
 use Rattle.table.proofs.Bytes.{bytes-put}
-use Rattle.table.proofs.Decode.{state-ext}
+use Rattle.table.proofs.KeptPlaces.{state-ext}
 
 abbrev Zero : ℕ → Type 0
 Zero x = x ≡ 0

@@ -1,5 +1,6 @@
 -- What is lent as `&whole[off..off + k]`, where `off` is a thing's place, is that thing's bytes (`-lent`), and where a callee did f to them the whole that
--- comes back has f done to the thing (`-back`). In order: any part, a node, a channel, a site's part, a session.
+-- comes back has f done to the thing (`-back`). In order: any part, a node, a channel, a site's part, a session, a
+-- node's kept places.
 use Prim.Native.Nat.{ℕ, _+_, _-_, _<_}
 use mathlib.Core.Path.{_≡_, _∙_}
 use mathlib.Core.List.{List}
@@ -8,7 +9,7 @@ use borrow.Author.Tests.{lt-ltb}
 use borrow.Rule.Slice.PartMut.{putMid}
 use Rattle.codec.specs.Part.{partOf}
 use Rattle.codec.proofs.Part.{lent-back}
-use Rattle.table.specs.Parts.{sessionAt, siteAt, nodeAt, channelAt, sessionOf, siteOf, nodeOf, channelOf, onSession, onSite, onNode, onChannel}
+use Rattle.table.specs.Parts.{sessionAt, siteAt, nodeAt, channelAt, keptAt, sessionOf, siteOf, nodeOf, channelOf, keptOf, onSession, onSite, onNode, onChannel, onKept}
 
 -- the k bytes from `off`, as a caller lends them, and the whole with ys in their stead
 abbrev lent : ℕ → ℕ → List ℕ → List ℕ
@@ -57,3 +58,12 @@ module _ (t : List ℕ) (s off : ℕ) (e : off ≡ sessionAt s) where
   pub session-back : (ys : List ℕ) (f : List ℕ → List ℕ) → ys ≡ f (lent off 128 t) → back off 128 t ys ≡ onSession s f t
   unfolding onSession
   session-back ys f g = lent-back off 128 t ys f g ∙ rw e
+
+module _ (t : List ℕ) (m p off : ℕ) (e : off ≡ keptAt m p) where
+  pub kept-lent : m < 4 → p < 4 → keptOf t m p ≡ lent off 64 t
+  unfolding keptOf
+  kept-lent h g = rw (lt-ltb m 4 h, lt-ltb p 4 g, e) (part-lent (keptAt m p) 64 t)
+
+  pub kept-back : (ys : List ℕ) (f : List ℕ → List ℕ) → ys ≡ f (lent off 64 t) → back off 64 t ys ≡ onKept m p f t
+  unfolding onKept
+  kept-back ys f g = lent-back off 64 t ys f g ∙ rw e

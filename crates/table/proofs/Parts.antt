@@ -19,25 +19,32 @@ use Rattle.codec.specs.Le.{load, Bytes, Apart}
 use Rattle.codec.specs.Part.{partOf, onPart, Keeps}
 use Rattle.codec.proofs.Le.{load-ext}
 use Rattle.codec.proofs.Part.{length-part, length-onPart, getD-onPart, part-onPart, part-other}
-use Rattle.table.specs.Parts.{Long, sessionAt, siteAt, nodeAt, channelAt, sessionOf, siteOf, nodeOf, channelOf, onSession, onSite, onNode, onChannel}
+use Rattle.table.specs.Parts.{Long, Whole, sessionAt, siteAt, nodeAt, channelAt, sessionOf, siteOf, nodeOf, channelOf, onSession, onSite, onNode, onChannel}
 
 -- a table of the same length is as long
 pub long-still : (t u : List ℕ) → length u ≡ length t → Long t → Long u
 long-still t u e l = omega arith
 
+pub whole-still : (t u : List ℕ) → length u ≡ length t → Whole t → Whole u
+whole-still t u e w = omega arith
+
+-- a whole table is long
+pub whole-long : (t : List ℕ) → Whole t → Long t
+whole-long t w = omega arith
+
 -- ---- any part, there where b holds, after f was done to the k bytes from `off`
 
 module _ (off k : ℕ) (f : List ℕ → List ℕ) (t : List ℕ) (fit : off + k ≤ length t) (keeps : Keeps k f) where
-  load-elsewhere : (w j : ℕ) → Apart j w off k → load w (onPart off k f t) j ≡ load w t j
+  pub load-elsewhere : (w j : ℕ) → Apart j w off k → load w (onPart off k f t) j ≡ load w t j
   load-elsewhere w j o =
       load-ext w (onPart off k f t) t j j (λ i b. getD-onPart off k f t fit keeps (j + i) (o (j + i) (omega arith) (omega arith)))
 
-  part-elsewhere : (b : Bool) (off′ k′ : ℕ) → (T b → (off′ + k′ ≤ length t) × Apart off′ k′ off k) → cond b (partOf off′ k′ (onPart off k f t)) [] ≡ cond b (partOf off′ k′ t) []
+  pub part-elsewhere : (b : Bool) (off′ k′ : ℕ) → (T b → (off′ + k′ ≤ length t) × Apart off′ k′ off k) → cond b (partOf off′ k′ (onPart off k f t)) [] ≡ cond b (partOf off′ k′ t) []
   part-elsewhere true off′ k′ o = part-other off k f t fit keeps off′ k′ (o tt .1) (o tt .0)
   part-elsewhere false off′ k′ o = refl
 
   -- the part at off′ is the same one where e holds
-  part-either : (b e : Bool) (off′ : ℕ) → (T e → T b) → (T e → off′ ≡ off) → (T b → T (not e) → (off′ + k ≤ length t) × Apart off′ k off k)
+  pub part-either : (b e : Bool) (off′ : ℕ) → (T e → T b) → (T e → off′ ≡ off) → (T b → T (not e) → (off′ + k ≤ length t) × Apart off′ k off k)
       → cond b (partOf off′ k (onPart off k f t)) [] ≡ cond e (f (cond b (partOf off′ k t) [])) (cond b (partOf off′ k t) [])
   part-either true true off′ h q o = rw (q tt) (part-onPart off k f t fit keeps)
   part-either true false off′ h q o = part-other off k f t fit keeps off′ k (o tt tt .1) (o tt tt .0)

@@ -1,9 +1,8 @@
-// The whole table's bytes. `places` says where each part stands, and lends it for reading; `sites` has the changes of a site's part. Here are the setup's
-// constants as they are read, and the protocol's four changes, each of which lends the part that it changes: a session's, or a site's, which starts in the
-// table's middle.
+// The whole table's bytes. `places` says where each part stands, and lends it for reading; `sites` has the changes of a site's part, and `kept` the kept
+// places. Here are the setup's constants as they are read, and the protocol's four changes, each of which lends the part that it changes: a session's, or a
+// site's, which starts in the table's middle; where a node may have stored a record, its kept place follows.
 ghost use mathlib.Core.Path.{_≡_};
 ghost use Prim.Native.Nat.{_-_, _≤_, _<_};
-ghost use Rattle.codec.specs.Le.{load};
 ghost use Rattle.protocol.specs.Meaning.{settingOf};
 ghost use Rattle.protocol.specs.Change.{SetSession, SetClock, Publish, Receive};
 ghost use Rattle.record.specs.Meaning.{asMessage};
@@ -14,12 +13,13 @@ ghost use Rattle.parts.specs.Meaning.{asSession};
 ghost use Rattle.table.specs.Parts.{Long, placeOf, siteOf, nodeOf, channelOf, onSite, onNode, onChannel};
 ghost use Rattle.table.specs.Decode.{settingIn};
 ghost use Rattle.table.specs.Put.{putChange};
-ghost use Rattle.table.specs.Free.{Free};
+ghost use Rattle.table.specs.Fits.{FitsPublish, FitsReceive};
 use parts::Session;
 use parts::sessions;
 use protocol::limits::Setting;
 use record::Letter;
 
+pub mod kept;
 pub mod places;
 pub mod sites;
 
@@ -62,13 +62,14 @@ pub fn set_clock(t: &mut [u8], m: usize, p: usize, time: u64)
 
 // Node (m, p) makes a message.
 pub fn publish(t: &mut [u8], m: usize, p: usize, x: Letter)
-    requires { ⌜ Long (now t) × (1 ≤ load 1 (now t) 0) × (load 1 (now t) 0 ≤ 4) × (m < 4) × (p < 4) × Room (asMessage x) (nodeOf (siteOf (now t) m) p) × Free (load 1 (now t) 0 - 1) p (siteOf (now t) m) ⌝ }
+    requires { ⌜ FitsPublish m p (asMessage x) (now t) ⌝ }
     ensures { λ _. ⌜ now (t .exit) ≡ putChange (Publish m p (asMessage x)) (now (t .entry)) ⌝ }
 {
     let n = codec::load_u8(t, 0) as usize - 1;
     let off = places::site_at(m);
     let end = off + places::SITE;
     sites::publish(&mut t[off..end], n, m, p, x);
+    kept::note_message(t, m, p, x);
 }
 
 // Node (m, p) takes a message of site i in.
@@ -93,10 +94,11 @@ fn take_off(t: &mut [u8], i: usize, p: usize, d: usize)
 
 // Node (m, p) takes the message off the front of the channel from site i.
 pub fn receive(t: &mut [u8], i: usize, m: usize, p: usize, x: Letter)
-    requires { ⌜ Long (now t) × (i < 4) × (m < 4) × (p < 4) × (i ≡ m → ⊥) × Room (asMessage x) (nodeOf (siteOf (now t) m) p) × (0 < waitIn (channelOf (siteOf (now t) i) p (placeOf i m))) ⌝ }
+    requires { ⌜ FitsReceive i m p (asMessage x) (now t) ⌝ }
     ensures { λ _. ⌜ now (t .exit) ≡ putChange (Receive i m p (asMessage x)) (now (t .entry)) ⌝ }
 {
     let d = place_of(i, m);
     take_in(t, i, m, p, x);
     take_off(t, i, p, d);
+    kept::note_message(t, m, p, x);
 }

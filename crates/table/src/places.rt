@@ -1,9 +1,9 @@
-// Where each part of the table starts, and the part itself, lent for reading: a session, a site, and of a site a node or a channel. docs/LAYOUT.md has
+// Where each part of the table starts, and the part itself, lent for reading: a session, a site, a node's kept places, and of a site a node or a channel. docs/LAYOUT.md has
 // the same numbers. In order: the sizes, where each part starts, the parts of the table, and the parts of a site's part.
 ghost use mathlib.Core.Path.{_≡_};
 ghost use Prim.Native.Nat.{_+_, _≤_, _<_};
 ghost use lib.ListN.{length};
-ghost use Rattle.table.specs.Parts.{Long, sessionAt, siteAt, nodeAt, channelAt, sessionOf, siteOf, nodeOf, channelOf};
+ghost use Rattle.table.specs.Parts.{Whole, Long, sessionAt, siteAt, nodeAt, channelAt, keptAt, sessionOf, siteOf, nodeOf, channelOf, keptOf};
 
 pub const SESSION: usize = 128;
 
@@ -12,6 +12,8 @@ pub const SITE: usize = 13056;
 pub const NODE: usize = 1856;
 
 pub const CHANNEL: usize = 464;
+
+pub const KEPT: usize = 64;
 
 // Where session s starts in the table.
 pub fn session_at(s: usize) -> usize
@@ -43,6 +45,14 @@ pub fn channel_at(p: usize, d: usize) -> usize
     ensures { λ r. ⌜ (r ≡ channelAt p d) × (r + 464 ≤ 13056) ⌝ }
 {
     7424 + CHANNEL * (3 * p + d)
+}
+
+// Where the kept places of node (m, p) start in the table.
+pub fn kept_at(m: usize, p: usize) -> usize
+    requires { ⌜ (m < 4) × (p < 4) ⌝ }
+    ensures { λ r. ⌜ (r ≡ keptAt m p) × (r + 64 ≤ 57344) ⌝ }
+{
+    56320 + KEPT * (4 * m + p)
 }
 
 pub fn session(t: &[u8], s: u8) -> &[u8]
@@ -77,6 +87,16 @@ pub fn channel(t: &[u8], m: u8, p: u8, d: usize) -> &[u8]
     ensures { λ r. ⌜ (now r ≡ channelOf (siteOf (now (t .entry)) m) p d) × (length (now r) ≡ 464) ⌝ }
 {
     channel_of(site(t, m), p, d)
+}
+
+// The kept places of node (m, p).
+pub fn kept(t: &[u8], m: u8, p: u8) -> &[u8]
+    requires { ⌜ Whole (now t) × (m < 4) × (p < 4) ⌝ }
+    ensures { λ r. ⌜ (now r ≡ keptOf (now (t .entry)) m p) × (length (now r) ≡ 64) ⌝ }
+{
+    let off = kept_at(m as usize, p as usize);
+    let end = off + KEPT;
+    &t[off..end]
 }
 
 // Node p of a site's part.

@@ -3,7 +3,9 @@
 use level_archive::TABLE_BYTES;
 use plain::limits::*;
 use plain::random::Random;
-use plain::table::{partition_part, session_part};
+use plain::table::{kept_part, partition_part, session_part};
+
+use crate::kept::{keep_newest, record_at};
 
 /// Numbers of one byte on both sides of a limit.
 const EDGES: [u8; 20] = [0, 1, 2, 3, 4, 5, 7, 8, 9, 15, 31, 32, 33, 62, 63, 64, 65, 127, 128, 255];
@@ -15,11 +17,18 @@ const TIMES: [u64; 6] = [0, 1, LAST_TIME, LAST_TIME + 1, 1 << 56, u64::MAX];
 const LEVELS: [i32; 7] =
     [0, LOWEST_LEVEL, LOWEST_LEVEL - 1, HIGHEST_LEVEL, HIGHEST_LEVEL + 1, i32::MIN, i32::MAX];
 
-/// Damages a table in one to three places.
+/// Damages a table in one to three places: kept places, one time in five, or others.
+/// Of the others half get the kept places that their records then call for, so that
+/// these don't always decide.
 pub fn damage(random: &mut Random, table: &mut [u8]) {
     let mut knife = Knife { random, table };
-    for _ in 0..*knife.random.one_of(&[1, 1, 1, 2, 3]) {
-        knife.cut();
+    let places = *knife.random.one_of(&[1, 1, 1, 2, 3]);
+    if knife.random.chance(200) {
+        return (0..places).for_each(|_| knife.kept());
+    }
+    (0..places).for_each(|_| knife.cut());
+    if knife.random.chance(500) {
+        keep_newest(knife.table);
     }
 }
 
@@ -98,6 +107,42 @@ impl Knife<'_> {
                 self.record(first + 16 + 56 * place);
             }
         }
+    }
+
+    /// The kept place of a key: none, one above the slots in use, one of them, one with
+    /// a record of this key, or any byte.
+    fn kept(&mut self) {
+        let (site, partition) = self.mostly_there();
+        let node = partition_part(site, partition).0.start;
+        let held = self.table[node + 40].min(RECORDS as u8);
+        let (slots, key) = (held.max(1) as usize, self.key(node, held));
+        let of_key = |at: usize| self.table[record_at(node, at as u8 + 1)] == key;
+        let same = self.random.one_where(slots, of_key).map_or(0, |at| at as u8 + 1);
+        let any = self.random.below(slots) as u8 + 1;
+        let at = kept_part(site, partition).start + key as usize;
+        match self.random.below(6) {
+            0 => self.byte(at),
+            1 => self.table[at] = 0,
+            2 => self.table[at] = held + 1,
+            3 => self.table[at] = any,
+            _ => self.table[at] = same,
+        }
+    }
+
+    /// The key of one of the records held at a node, or any key.
+    fn key(&mut self, node: usize, held: u8) -> u8 {
+        let slot = self.random.below(held.max(1) as usize) as u8 + 1;
+        let key = self.table[record_at(node, slot)] % KEYS as u8;
+        if self.random.chance(750) { key } else { self.random.below(KEYS) as u8 }
+    }
+
+    /// Site and partition of a node, one time in four of any, absent ones too.
+    fn mostly_there(&mut self) -> (usize, usize) {
+        let there = self.random.chance(750);
+        let most = |number: u8, most: usize| if there { number as usize } else { most };
+        let (sites, partitions) = (most(self.table[0], SITES), most(self.table[1], PARTITIONS));
+        let (sites, partitions) = (sites.clamp(1, SITES), partitions.clamp(1, PARTITIONS));
+        (self.random.below(sites), self.random.below(partitions))
     }
 
     /// A field of a record or message, or all of it taken from elsewhere.

@@ -80,12 +80,14 @@ impl<S: Subject> Pair<S> {
         Ok(answers)
     }
 
-    /// Compares the state.
+    /// Compares the state, and the table's kept places with the state's records.
     pub fn compare_states(&self) -> Result<(), Difference> {
-        let Some(said) = table::read(self.subject.table()) else {
-            return Err(self.difference("the table is no longer well formed".into()));
-        };
-        let differs = table::difference(&said, &self.plain);
+        let table = self.subject.table();
+        let kept = table::kept_difference(table, &self.plain);
+        let differs = kept.or_else(|| match table::read(table) {
+            Some(said) => table::difference(&said, &self.plain),
+            None => Some("the table is no longer well formed".into()),
+        });
         differs.map_or(Ok(()), |what| Err(self.difference(what)))
     }
 

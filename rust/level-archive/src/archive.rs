@@ -62,7 +62,8 @@ impl<B: AsRef<[u8]> + AsMut<[u8]>> Archive<B> {
     }
 
     /// Over a table made earlier (a file, shared memory). Nothing is checked here:
-    /// each call checks it, and answers 23 or 24.
+    /// each call checks it, and answers 23 or 24. A table that a version before 0.3.0
+    /// left keeps no newest records: if it holds a record, it is refused with 24.
     ///
     /// ```
     /// use level_archive::{Answer, Archive, Event, Refusal};

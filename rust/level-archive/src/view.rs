@@ -11,7 +11,8 @@ use crate::part::Part;
 use crate::quality::Quality;
 use crate::refusal::Refusal;
 
-/// A table is a head with the sessions and then a part for each site.
+/// A table is a head with the sessions, then a part for each site, and last the kept
+/// places of all nodes. These say nothing that the records don't: a view leaves them out.
 const FIRST_SESSION: usize = 128;
 const SESSION_BYTES: usize = 128;
 const FIRST_SITE: usize = 4096;

@@ -61,6 +61,19 @@ impl Node {
         newest_of(self.of_key(key).filter(|record| covers(page, &record.vector)))
     }
 
+    /// For each key where its newest record is stored, counted from 1; 0 where there
+    /// is none.
+    pub fn newest_places(&self) -> [u8; KEYS] {
+        let mut places = [0; KEYS];
+        for (place, record) in (1..).zip(self.records()) {
+            let newest = &mut places[record.key as usize];
+            if *newest == 0 || record.is_newer_than(&self.records[*newest as usize - 1]) {
+                *newest = place;
+            }
+        }
+        places
+    }
+
     /// The records of a key, first stored first: those of `records` with this key.
     #[inline]
     fn of_key(&self, key: u8) -> impl Iterator<Item = &Record> {

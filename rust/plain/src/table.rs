@@ -6,10 +6,11 @@
 
 mod differ;
 mod formed;
+mod kept;
 mod layout;
 mod read;
 
-pub use differ::difference;
+pub use differ::{difference, kept_difference};
 pub use formed::well_formed;
-pub use layout::{TABLE_BYTES, partition_part, session_part, site_part};
+pub use layout::{TABLE_BYTES, kept_part, partition_part, session_part, site_part};
 pub use read::read;

@@ -79,7 +79,7 @@ returns-3 c =
     let p = w .before .before .before in
     let a = p .before .before .before .before .args in
     let S : Sound tableLength (a .table .now) =
-    record { size = search needs; long = search needs; bytes = p .before .before .before .slice-known .given; formed = is-yes _ (sym (w .well-formed .ensures) ∙ not-false _ (e .if2 .left)) } in (
+    record { size = search needs; whole = search needs; bytes = p .before .before .before .slice-known .given; formed = is-yes _ (sym (w .well-formed .ensures) ∙ not-false _ (e .if2 .left)) } in (
       p .pieces-for .ensures,
       k .run .ensures
           ∙ sym (run-formed (a .table .now) (a .events .now) (a .answers .now) (p .pieces-for .result) S)

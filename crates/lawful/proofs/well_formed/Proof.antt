@@ -1,7 +1,7 @@
 -- `lawful::well_formed` meets its contract, whichever test fails first.
-use mathlib.Core.Path.{sym, subst}
+use mathlib.Core.Path.{sym, subst, _∙_}
 use lib.Dec.{T}
-use Rattle.codec.proofs.Tests.{fails, passes, every-fails, every-last}
+use Rattle.codec.proofs.Tests.{fails, passes, every-fails, every-joined}
 use Rattle.lawful.specs.WellFormed.{wellFormed}
 use Rattle.lawful.proofs.Facts.{setting-facts}
 use Rattle.lawful.proofs.well_formed.Statement.{statement}
@@ -42,7 +42,7 @@ returns-3 c =
     let yes = passes (at .before .setting-lawful .ensures) (at .if1 .left) in
     let same = at .before .before .setting .ensures in
     let yesSessions = passes (c .before .before .sessions-formed .ensures) (c .before .if2 .left) in
-    rw (← same, c .sites-formed .ensures) (sym (every-last _ (yes, (yesSessions, tt))))
+    rw (← same, c .sites-formed .ensures) (sym (every-joined _ ∙ rw (yes, yesSessions)))
 
 pub well-formed-spec : {M : Type 1} → statement M
 well-formed-spec =

@@ -2,9 +2,8 @@
 use mathlib.Core.Path.{sym, _∙_}
 use borrow.Author.Needs.{needs}
 use borrow.Author.Tests.{eq-eqb, ne-eqb}
-use Rattle.protocol.specs.Record.{ofKey}
+use Rattle.protocol.specs.Record.{ofKey, fitsPage}
 use Rattle.record.specs.RecordBytes.{recordAt}
-use Rattle.search.specs.Found.{fits}
 use Rattle.search.proofs.is_candidate.Statement.{statement}
 use Rattle.search.proofs.is_candidate.Tie as tie
 
@@ -12,7 +11,7 @@ load-u8-requires : tie.Need-load-u8-requires
 load-u8-requires c κs = search needs
 
 returns : tie.Need-returns
-unfolding fits ofKey recordAt
+unfolding fitsPage ofKey recordAt
 returns c = rw (ne-eqb _ _ (λ e. c .if1 .taken (c .before .before .load-u8 .ensures ∙ e)))
 
 add-load-vector : tie.Need-add-load-vector
@@ -25,26 +24,11 @@ at-most-requires : tie.Need-at-most-requires
 at-most-requires c κs = search needs
 
 returns-2 : tie.Need-returns-2
-unfolding fits ofKey recordAt
+unfolding fitsPage ofKey recordAt
 returns-2 c =
     let u = c .before .before in
-    let k = u .before .before .before in
-    rw (eq-eqb _ _ (sym (k .load-u8 .ensures) ∙ u .before .if1 .left), u .if2 .taken) (c .at-most .ensures ∙ rw (c .before .load-vector .ensures))
-
-returns-3 : tie.Need-returns-3
-unfolding fits ofKey recordAt
-returns-3 c =
-    let k = c .before .before .before in
-    rw (eq-eqb _ _ (sym (k .load-u8 .ensures) ∙ c .before .if1 .left), c .if2 .left)
+    let k = u .before .before in
+    rw (eq-eqb _ _ (sym (k .load-u8 .ensures) ∙ u .if1 .left)) (c .at-most .ensures ∙ rw (c .before .load-vector .ensures))
 
 pub is-candidate-spec : {M : Type 1} → statement M
-is-candidate-spec =
-    tie.close
-    (tie.spec
-    load-u8-requires
-    returns
-    add-load-vector
-    load-vector-requires
-    at-most-requires
-    returns-2
-    returns-3)
+is-candidate-spec = tie.close (tie.spec load-u8-requires returns add-load-vector load-vector-requires at-most-requires returns-2)

@@ -7,14 +7,16 @@ use mir.Syntax.{w32}
 use mir.Facts.{toZ-ofZ}
 use Rattle.codec.specs.Le.{load}
 use Rattle.protocol.specs.Event.{PUT}
-use Rattle.event.specs.Fields.{site, partition, session, from, count, uses}
+use Rattle.event.specs.Fields.{site, partition, session, key, from, count, uses}
 use Rattle.event.specs.Meaning.{keysFrom, eventFor}
 use Rattle.event.specs.Event.{eventOf}
 use Rattle.event.proofs.Meaning.{Lawful}
+use Rattle.table.specs.Parts.{Long}
 use Rattle.table.specs.Decode.{settingIn, decode}
+use Rattle.table.proofs.Parts.{whole-long}
 use Rattle.lawful.proofs.Facts.{formed}
 use Rattle.decision.specs.Answered.{answered}
-use Rattle.steps.proofs.Fields.{code-in, event-by, session-in, site-in, part-in, count-in, from-in}
+use Rattle.steps.proofs.Fields.{code-in, event-by, session-in, key-in, site-in, part-in, count-in, from-in}
 use Rattle.steps.proofs.decide.Statement.{statement}
 use Rattle.steps.proofs.decide.Tie as tie
 use borrow.Author.Needs.{needs}
@@ -30,6 +32,9 @@ module _ (f : tie.After-load-fields) (n : ℕ) (h : f .load-fields .result .code
 
   session-ok : T (uses (n - 1) session) → f .load-fields .result .session < 16
   session-ok = session-in (f .before .before .before .args .t .now) (f .before .before .before .args .e .now) (f .load-fields .result) (f .load-fields .ensures) (lawful f) n h
+
+  key-ok : T (uses (n - 1) key) → f .load-fields .result .key < 64
+  key-ok = key-in (f .before .before .before .args .t .now) (f .before .before .before .args .e .now) (f .load-fields .result) (f .load-fields .ensures) (lawful f) n h
 
   site-ok : T (uses (n - 1) site) → f .load-fields .result .site < load 1 (f .before .before .before .args .t .now) 0
   site-ok = site-in (f .before .before .before .args .t .now) (f .before .before .before .args .e .now) (f .load-fields .result) (f .load-fields .ensures) (lawful f) n h
@@ -55,6 +60,9 @@ ten c = let k = code-ok (c .before .before) in omega arith
 parts-few : (f : tie.After-load-fields) → load 1 (f .before .before .before .args .t .now) 1 ≤ 4
 parts-few f = formed (f .before .before .before .args .t .now) (f .before .before .before .pre .1) .partitions
 
+long : (f : tie.After-load-fields) → Long (f .before .before .before .args .t .now)
+long f = whole-long (f .before .before .before .args .t .now) (f .before .before .before .pre .0)
+
 -- ---- by the code
 
 load-fields-requires : tie.Need-load-fields-requires
@@ -62,23 +70,23 @@ load-fields-requires c κs = search needs
 
 open-session-requires : tie.Need-open-session-requires
 unfolding uses
-open-session-requires c κs = (c .before .before .before .before .before .pre .0, c .before .before .before .before .before .pre .1, session-ok (c .before .before) 1 (c .match .keys1) tt)
+open-session-requires c κs = (long (c .before .before), c .before .before .before .before .before .pre .1, session-ok (c .before .before) 1 (c .match .keys1) tt)
 
 close-session-requires : tie.Need-close-session-requires
 unfolding uses
-close-session-requires c κs = (c .before .before .before .before .before .pre .0, c .before .before .before .before .before .pre .1, session-ok (c .before .before) 2 (c .match .keys2) tt)
+close-session-requires c κs = (long (c .before .before), c .before .before .before .before .before .pre .1, session-ok (c .before .before) 2 (c .match .keys2) tt)
 
 clock-requires : tie.Need-clock-requires
 unfolding uses
-clock-requires c κs = (c .before .before .before .before .before .pre .0, c .before .before .before .before .before .pre .1, site-ok (c .before .before) 3 (c .match .keys3) tt, part-ok (c .before .before) 3 (c .match .keys3) tt)
+clock-requires c κs = (long (c .before .before), c .before .before .before .before .before .pre .1, site-ok (c .before .before) 3 (c .match .keys3) tt, part-ok (c .before .before) 3 (c .match .keys3) tt)
 
 get-requires : tie.Need-get-requires
 unfolding uses
-get-requires c κs = (c .before .before .before .before .before .pre .0, c .before .before .before .before .before .pre .1, session-ok (c .before .before) 4 (c .match .keys4) tt)
+get-requires c κs = (c .before .before .before .before .before .pre .0, c .before .before .before .before .before .pre .1, session-ok (c .before .before) 4 (c .match .keys4) tt, key-ok (c .before .before) 4 (c .match .keys4) tt)
 
 put-requires : tie.Need-put-requires
 unfolding uses
-put-requires c κs = (c .before .before .before .before .before .before .pre .0, c .before .before .before .before .before .before .pre .1, session-ok (c .before .before .before) 5 (five (c .before)) tt)
+put-requires c κs = (long (c .before .before .before), c .before .before .before .before .before .before .pre .1, session-ok (c .before .before .before) 5 (five (c .before)) tt)
 
 begin-requires : tie.Need-begin-requires
 unfolding uses
@@ -86,25 +94,25 @@ begin-requires c κs =
     let f = c .before .before .before in
     let p = part-ok f 6 (c .before .match2 .keys1) tt in
     let q = parts-few f in
-    (c .before .before .before .before .before .before .pre .0, c .before .before .before .before .before .before .pre .1, session-ok f 6 (c .before .match2 .keys1) tt, omega arith, count-ok f 6 (c .before .match2 .keys1) tt)
+    (long (c .before .before .before), c .before .before .before .before .before .before .pre .1, session-ok f 6 (c .before .match2 .keys1) tt, omega arith, count-ok f 6 (c .before .match2 .keys1) tt)
 
 read-requires : tie.Need-read-requires
 unfolding uses
-read-requires c κs = (c .before .before .before .before .before .pre .0, c .before .before .before .before .before .pre .1, session-ok (c .before .before) 7 (c .match2 .keys2) tt)
+read-requires c κs = (long (c .before .before), c .before .before .before .before .before .pre .1, session-ok (c .before .before) 7 (c .match2 .keys2) tt)
 
 end-requires : tie.Need-end-requires
 unfolding uses
-end-requires c κs = (c .before .before .before .before .before .pre .0, c .before .before .before .before .before .pre .1, session-ok (c .before .before) 8 (c .match2 .keys3) tt)
+end-requires c κs = (long (c .before .before), c .before .before .before .before .before .pre .1, session-ok (c .before .before) 8 (c .match2 .keys3) tt)
 
 beat-requires : tie.Need-beat-requires
 unfolding uses
-beat-requires c κs = (c .before .before .before .before .before .pre .0, c .before .before .before .before .before .pre .1, site-ok (c .before .before) 9 (c .match2 .keys4) tt, part-ok (c .before .before) 9 (c .match2 .keys4) tt)
+beat-requires c κs = (long (c .before .before), c .before .before .before .before .before .pre .1, site-ok (c .before .before) 9 (c .match2 .keys4) tt, part-ok (c .before .before) 9 (c .match2 .keys4) tt)
 
 deliver-requires : tie.Need-deliver-requires
 unfolding uses
 deliver-requires c κs =
     let k = from-ok (c .before .before) 10 (ten c) tt in
-    (c .before .before .before .before .before .pre .0, c .before .before .before .before .before .pre .1, k .0, site-ok (c .before .before) 10 (ten c) tt, k .1, part-ok (c .before .before) 10 (ten c) tt)
+    (long (c .before .before), c .before .before .before .before .before .pre .1, k .0, site-ok (c .before .before) 10 (ten c) tt, k .1, part-ok (c .before .before) 10 (ten c) tt)
 
 returns : tie.Need-returns
 returns c = c .open-session .ensures ∙ ap (answered (decode (c .before .before .before .before .before .before .args .t .now))) (sym (says (c .before .before .before) 1 (c .before .match .keys1)))

@@ -4,7 +4,7 @@ use mathlib.Core.Bool.{true}
 use lib.ListN.{length}
 use borrow.Author.Tests.{not-true, not-false}
 use Rattle.event.specs.Event.{codeLawful}
-use Rattle.lawful.proofs.Facts.{formed}
+use Rattle.table.proofs.Parts.{whole-long}
 use Rattle.lawful.proofs.Steps.{Sound}
 use Rattle.steps.specs.Step.{gives, fieldsTest}
 use Rattle.steps.proofs.Stepped.{is-yes, is-no, test-by, code-unlawful, fields-unlawful, decided-fits, decided-gives}
@@ -24,7 +24,7 @@ tested c = c .before .before .before
 sound : (c : tie.After-fields-lawful) → Sound (length (tested c .before .before .before .before .args .t .now)) (tested c .before .before .before .before .args .t .now)
 sound c =
     let s = tested c .before .before .before in
-    record { size = refl; long = s .before .pre .0; bytes = s .slice-known .given; formed = s .before .pre .1 }
+    record { size = refl; whole = s .before .pre .0; bytes = s .slice-known .given; formed = s .before .pre .1 }
 
 test-is : (c : tie.After-fields-lawful) → c .fields-lawful .result ≡ fieldsTest (tested c .before .before .before .before .args .t .now) (tested c .before .before .before .before .args .e .now)
 test-is c =
@@ -83,10 +83,9 @@ carry-out-requires c κs =
     let f = n .before in
     let a = tested f .before .before .before .before .args in
     let S = sound f in
-    let F = formed (a .t .now) (S .formed) in
     let l = is-yes _ (code-true (tested f)) in
     let u = is-yes _ (fields-true n) in
-    (S .long, F .site, F .sites, decided-fits _ (a .t .now) (a .e .now) (d .result) S l u (d .ensures))
+    (whole-long (a .t .now) (S .whole), decided-fits _ (a .t .now) (a .e .now) (d .result) S l u (d .ensures))
 
 same-length-2 : tie.Need-same-length-2
 same-length-2 c = search needs

@@ -1,7 +1,7 @@
 -- `table::set_clock` meets its contract, by what comes back of the site's part.
 use borrow.Author.Needs.{needs}
 use Rattle.parts.specs.Node.{clockSet}
-use Rattle.table.specs.Put.{putChange}
+use Rattle.table.specs.Put.{putCore, keptAfter, putChange}
 use Rattle.table.specs.Parts.{onNode}
 use Rattle.table.proofs.Lent.{site-back}
 use Rattle.table.proofs.set_clock.Statement.{statement}
@@ -29,7 +29,7 @@ same-length : tie.Need-same-length
 same-length c = search needs
 
 returns : tie.Need-returns
-unfolding putChange
+unfolding putChange keptAfter putCore
 returns c =
     let k = c .before .before in
     let a = k .before .before .before .before .args in

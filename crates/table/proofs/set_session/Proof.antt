@@ -2,7 +2,7 @@
 use borrow.Author.Needs.{needs}
 use Rattle.parts.specs.Meaning.{asSession}
 use Rattle.parts.specs.Session.{putSession}
-use Rattle.table.specs.Put.{putChange}
+use Rattle.table.specs.Put.{putCore, keptAfter, putChange}
 use Rattle.table.proofs.Lent.{session-back}
 use Rattle.table.proofs.set_session.Statement.{statement}
 use Rattle.table.proofs.set_session.Tie as tie
@@ -29,7 +29,7 @@ same-length : tie.Need-same-length
 same-length c = search needs
 
 returns : tie.Need-returns
-unfolding putChange
+unfolding putChange keptAfter putCore
 returns c =
     let k = c .before .before in
     let a = k .before .before .before .before .args in

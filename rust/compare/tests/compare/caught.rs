@@ -6,9 +6,9 @@ use compare::report::{check, report};
 use compare::subject::{Subject, Told};
 use compare::tally::Tally;
 use compare::watch::Watch;
-use level_archive::{ANSWER_BYTES, Archive, EVENT_BYTES};
+use level_archive::{ANSWER_BYTES, Archive, EVENT_BYTES, TABLE_BYTES};
 use plain::stream::{Stream, Style};
-use plain::table::{partition_part, session_part};
+use plain::table::{kept_part, partition_part, session_part};
 use plain::{Answer, code};
 
 #[derive(Clone, Copy, PartialEq, Debug)]
@@ -24,7 +24,14 @@ enum Fault {
     Table(usize),
     /// `run` says that it answered one event more.
     OneMore,
+    /// A record is stored by events of this code, and no place is kept for it.
+    Forgets(u8),
+    /// A delivered record is kept as the newest, though it may be older.
+    KeepsLast,
 }
+
+/// The first of the kept places, which stand last in a table.
+const FIRST_KEPT: usize = TABLE_BYTES - 1_024;
 
 /// The core, with a fault from some event on.
 struct Faulty {
@@ -55,12 +62,37 @@ impl Faulty {
             _ => (),
         }
     }
+
+    /// Turns the kept places after an event that was done.
+    fn turn_kept(&mut self, event: &[u8], before: &[u8]) {
+        let mut bytes = self.core.as_bytes().to_vec();
+        match self.fault {
+            _ if self.left > 0 => return,
+            Fault::Forgets(code) if event[0] == code => {
+                bytes[FIRST_KEPT..].copy_from_slice(before);
+            }
+            Fault::KeepsLast if event[0] == code::DELIVER => {
+                let (site, partition) = (event[1] as usize, event[2] as usize);
+                let node = partition_part(site, partition).0.start;
+                if let Some(last) = (bytes[node + 40] as usize).checked_sub(1) {
+                    let key = bytes[node + 64 + 56 * last] as usize;
+                    bytes[kept_part(site, partition).start + key] = last as u8 + 1;
+                }
+            }
+            _ => return,
+        }
+        self.core = Archive::over(bytes.into());
+    }
 }
 
 impl Subject for Faulty {
     fn step(&mut self, event: &[u8]) -> Told {
+        let before = self.core.as_bytes()[FIRST_KEPT..].to_vec();
         let mut told = self.core.step_bytes(event).to_bytes();
         self.turn(&mut told);
+        if told[0] == 0 {
+            self.turn_kept(event, &before);
+        }
         told
     }
 
@@ -110,6 +142,9 @@ fn every_fault_is_caught() {
     faults.extend([1, 8, 2, 4].map(Fault::Wait));
     // Clock, entry, and of the first record quality, level, stamp and entry.
     faults.extend([0, 8, 66, 68, 72, 80].map(|at| Fault::Table(node.start + at)));
+    // Kept places: of a key of the node's partition, and of another's.
+    faults.extend([1, 2].map(|key| Fault::Table(kept_part(1, 1).start + key)));
+    faults.extend([Fault::Forgets(code::PUT), Fault::Forgets(code::DELIVER), Fault::KeepsLast]);
     // A channel's front and its number of messages.
     faults.extend([0, 1].map(|at| Fault::Table(busy_channel(&events[..700]) + at)));
     // Whether a session is open, and its vector.

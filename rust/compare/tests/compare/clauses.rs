@@ -1,11 +1,12 @@
-//! When a table is well formed (R20 to R28), clause by clause: of each, the
-//! last lawful and the first unlawful number, to the core and to the
-//! independent check alike.
+//! When a table is well formed (R20 to R28, and that its kept places agree with the
+//! search), clause by clause: of each, the last lawful and the first unlawful number,
+//! to the core and to the independent check alike.
 
+use compare::kept::keep_newest;
 use level_archive::Archive;
 use plain::limits::LAST_TIME;
 use plain::make;
-use plain::table::{partition_part, session_part, well_formed};
+use plain::table::{kept_part, partition_part, session_part, well_formed};
 
 /// A table of 3 sites and 3 partitions with something of everything: session 0 is
 /// open at site 1 with a page of keys 3 and 4; node 0,0 holds a record; the
@@ -25,15 +26,29 @@ fn full() -> Archive {
     archive
 }
 
-/// The table with some bytes changed is well formed, or isn't, as both say.
-fn expect(lawful: bool, name: &str, changes: &[(usize, &[u8])]) {
-    let mut table = full().into_bytes();
+/// Writes some bytes into a table.
+fn change(table: &mut [u8], changes: &[(usize, &[u8])]) {
     for (at, bytes) in changes {
         table[*at..*at + bytes.len()].copy_from_slice(bytes);
     }
-    assert_eq!(well_formed(&table), lawful, "{name}, the independent check");
-    let number = Archive::over(table).step_bytes(&[0; 32]).number();
+}
+
+/// A table is well formed, or isn't, as both say; 24 changes no byte of it.
+fn both_say(lawful: bool, name: &str, table: &[u8]) {
+    assert_eq!(well_formed(table), lawful, "{name}, the independent check");
+    let mut core = Archive::over(table.to_vec());
+    let number = core.step_bytes(&[0; 32]).number();
     assert_eq!(number, if lawful { 10 } else { 24 }, "{name}, the core");
+    assert!(core.as_bytes() == table, "{name}, the table was changed");
+}
+
+/// The table with some bytes changed, and with the kept places that go with them, is
+/// well formed, or isn't.
+fn expect(lawful: bool, name: &str, changes: &[(usize, &[u8])]) {
+    let mut table = full().into_bytes();
+    change(&mut table, changes);
+    keep_newest(&mut table);
+    both_say(lawful, name, &table);
 }
 
 /// One byte: the last lawful number and the first unlawful one.
@@ -183,6 +198,102 @@ fn channels_of_absent_sites_and_partitions() {
     }
     let there = places(2, 2).1 + 464;
     expect(true, "one that exists", &[(there + 1, &[1]), (there + 16, &[0, 2, 0, 2])]);
+}
+
+/// A record of node 0,0 of the table above: key, source, stamp.
+fn record(key: u8, source: u8, stamp: u8) -> Vec<u8> {
+    let node = places(0, 0).0;
+    let mut record = full().as_bytes()[node + 64..node + 112].to_vec();
+    (record[0], record[1], record[8]) = (key, source, stamp);
+    record
+}
+
+/// The table above with five records at node 0,0, all of them held but the last. Of key
+/// 3 the second is the newest: the first has a lower site, the third is like it. Key 6
+/// has one with stamp 0.
+fn with_records() -> Vec<u8> {
+    let mut table = full().into_bytes().into_vec();
+    let node = places(0, 0).0;
+    let records =
+        [record(3, 0, 5), record(3, 1, 5), record(3, 1, 5), record(6, 0, 0), record(3, 2, 9)];
+    for (slot, record) in records.iter().enumerate() {
+        change(&mut table, &[(node + 64 + 56 * slot, record)]);
+    }
+    change(&mut table, &[(node + 40, &[4])]);
+    table
+}
+
+/// The kept places of node 0,0 in the table with records: key 3 in slot 2, key 6 in 4.
+const KEPT: [u8; 8] = [0, 0, 0, 2, 0, 0, 4, 0];
+
+/// The table with records and their kept places, some bytes changed.
+fn expect_kept(lawful: bool, name: &str, changes: &[(usize, &[u8])]) {
+    let mut table = with_records();
+    change(&mut table, &[(kept_part(0, 0).start, &KEPT)]);
+    change(&mut table, changes);
+    both_say(lawful, name, &table);
+}
+
+#[test]
+fn kept_places_of_keys_with_records() {
+    let kept = kept_part(0, 0).start;
+    expect_kept(true, "the newest of each key", &[]);
+    for (name, slot) in [
+        ("none, and there is a record", 0),
+        ("an older record of the key", 1),
+        ("the later stored of two alike", 3),
+        ("a record of another key", 4),
+        ("a free slot with a newer record of the key", 5),
+        ("the last slot of a node, which is free", 32),
+        ("one slot too many", 33),
+        ("the greatest byte", 255),
+    ] {
+        expect_kept(false, name, &[(kept + 3, &[slot])]);
+    }
+    expect_kept(false, "none, and there is a record with stamp 0", &[(kept + 6, &[0])]);
+    expect_kept(false, "all records are lost", &[(places(0, 0).0 + 40, &[0])]);
+    expect_kept(false, "the last record is lost", &[(places(0, 0).0 + 40, &[3])]);
+    let one_more: [(usize, &[u8]); 1] = [(places(0, 0).0 + 40, &[5])];
+    expect_kept(false, "a newer record is held", &one_more);
+    expect_kept(true, "and it is kept", &[one_more[0], (kept + 3, &[5])]);
+}
+
+#[test]
+fn kept_places_of_two_alike_but_for_stamp_or_source() {
+    let (node, kept) = (places(0, 0).0, kept_part(0, 0).start);
+    let third = node + 64 + 2 * 56;
+    for (at, greater) in [(third + 1, 2), (third + 8, 6), (third + 15 - 2, 1)] {
+        expect_kept(false, "the third is newer", &[(at, &[greater])]);
+        expect_kept(true, "the third is newer", &[(at, &[greater]), (kept + 3, &[3])]);
+    }
+    // A greater site doesn't make up for a smaller stamp.
+    let older: [(usize, &[u8]); 2] = [(third + 1, &[2]), (third + 8, &[4])];
+    expect_kept(true, "the third is older", &older);
+    expect_kept(false, "the third is older", &[older[0], older[1], (kept + 3, &[3])]);
+}
+
+#[test]
+fn kept_places_of_keys_without_records() {
+    // Keys of the partition, keys of others, nodes without records, absent nodes.
+    for number in 0..16 {
+        let kept = kept_part(number / 4, number % 4).start;
+        for key in (0..64).filter(|key| number > 0 || ![3, 6].contains(key)) {
+            for slot in [1, 2, 4, 255] {
+                let name = format!("slot {slot} for key {key} at node {number}");
+                expect_kept(false, &name, &[(kept + key, &[slot])]);
+            }
+        }
+    }
+}
+
+#[test]
+fn kept_places_as_the_core_sets_them() {
+    both_say(true, "as the events left it", full().as_bytes());
+    let kept = kept_part(0, 0).start;
+    assert_eq!(full().as_bytes()[kept..kept + 8], [0, 0, 0, 1, 0, 0, 0, 0]);
+    let mut older = full().into_bytes();
+    older[kept..].fill(0);
+    both_say(false, "as a version without kept places leaves it", &older);
 }
 
 #[test]

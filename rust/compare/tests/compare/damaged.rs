@@ -16,11 +16,16 @@ const AT_A_MOMENT: usize = 40;
 /// How many events go into a damaged table that is still well formed.
 const EVENTS: usize = 8;
 
+/// The first of the kept places, which stand last in a table.
+const FIRST_KEPT: usize = TABLE_BYTES - 1_024;
+
 /// What became of the damaged tables.
 #[derive(Default, Debug)]
 struct Fates {
     refused: u64,
     went_on: u64,
+    /// Of those refused, the ones that were damaged in kept places alone.
+    kept: u64,
 }
 
 /// The core's answer to a table that it must leave alone.
@@ -63,6 +68,7 @@ fn try_one(random: &mut Random, table: &[u8], events: &[Vec<u8>], fates: &mut Fa
     assert_eq!(core, Answer::only(number).to_bytes(), "{:?}", changes(table, &damaged));
     if !formed {
         fates.refused += 1;
+        fates.kept += u64::from(damaged[..FIRST_KEPT] == table[..FIRST_KEPT]);
         return is_refused(&damaged, &events[..1], 24);
     }
     fates.went_on += 1;
@@ -108,6 +114,7 @@ fn damaged_tables_are_refused_or_gone_on_with() {
     if settings.runs >= 320 {
         assert!(fates.refused >= 30_000 && fates.went_on >= 30_000);
         assert!(fates.refused + fates.went_on >= 100_000);
+        assert!(fates.kept >= 10_000);
     }
 }
 

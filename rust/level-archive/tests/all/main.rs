@@ -7,6 +7,7 @@ mod c;
 mod document;
 mod events;
 mod fields;
+mod kept;
 mod lent;
 mod vectors;
 mod view;

@@ -152,5 +152,5 @@ fn help_for_each() {
         }
     }
     assert_eq!(levels(&["--help"], b"").good(), levels(&["help"], b"").good());
-    assert_eq!(levels(&["--version"], b"").text(), "levels 0.2.0\n");
+    assert_eq!(levels(&["--version"], b"").text(), "levels 0.3.0\n");
 }

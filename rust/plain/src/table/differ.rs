@@ -1,5 +1,7 @@
-//! Whether two archives say the same, whatever their free places hold.
+//! Whether two archives say the same, whatever their free places hold, and whether
+//! a table's kept places are those of an archive's records.
 
+use super::layout;
 use crate::archive::Archive;
 use crate::limits::*;
 
@@ -9,6 +11,23 @@ pub fn difference(one: &Archive, other: &Archive) -> Option<String> {
         .or_else(|| (0..SESSIONS).find_map(|number| session(one, other, number)))
         .or_else(|| (0..SITES * PARTITIONS).find_map(|number| node(one, other, number)))
         .or_else(|| (0..SITES * SITES * PARTITIONS).find_map(|number| channel(one, other, number)))
+}
+
+/// The first kept place of a table that an archive's records don't say, in words.
+pub fn kept_difference(table: &[u8], archive: &Archive) -> Option<String> {
+    (0..SITES * PARTITIONS).find_map(|number| kept(table, archive, number))
+}
+
+/// At keys of other partitions and at absent nodes the archive has no record.
+fn kept(table: &[u8], archive: &Archive, number: usize) -> Option<String> {
+    let (site, partition) = (number / PARTITIONS, number % PARTITIONS);
+    let Some(kept) = table.get(layout::kept_part(site, partition)) else {
+        return Some("the table is too short".into());
+    };
+    let newest = archive.node(site, partition).newest_places();
+    let key = (0..KEYS).find(|key| kept[*key] != newest[*key])?;
+    let (this, that) = (kept[key], newest[key]);
+    Some(format!("kept place of key {key} at node {site},{partition}: {this} and {that}"))
 }
 
 fn setting(one: &Archive, other: &Archive) -> Option<String> {

@@ -1,7 +1,9 @@
 //! "A table is well formed when": the whole check, first to last byte. Sets of keys,
 //! masks and words of eight bytes stand here for speed alone: what each tests is said
-//! beside it.
+//! beside it. A node's kept places are tested behind the node, whose one walk over the
+//! records finds the newest of each key.
 
+use super::kept::{NO_RANKS, Newest, Ranks};
 use super::layout::{self, ChannelBytes, NodeBytes, RecordBytes, SessionBytes, Table};
 use crate::limits::*;
 use crate::vector::Vector;
@@ -51,18 +53,23 @@ impl Setting {
     }
 
     fn accepts(&self, table: &Table) -> bool {
+        let mut ranks = NO_RANKS;
+        let mut partition =
+            |number| self.partition(table, number / PARTITIONS, number % PARTITIONS, &mut ranks);
         (0..SESSIONS).all(|number| self.session(layout::session(table, number)))
-            && (0..SITES).all(|site| (0..PARTITIONS).all(|at| self.partition(table, site, at)))
+            && (0..SITES * PARTITIONS).all(&mut partition)
     }
 
-    /// A node with its outgoing channels.
-    fn partition(&self, table: &Table, site: usize, partition: usize) -> bool {
+    /// A node with its kept places and its outgoing channels.
+    fn partition(&self, table: &Table, site: usize, partition: usize, ranks: &mut Ranks) -> bool {
         let exists = site < self.sites && partition < self.partitions;
         let channel = |place| {
             let bytes = layout::channel(table, site, partition, place);
             self.channel(bytes, exists && place + 1 < self.sites, site, partition)
         };
-        self.node(layout::node(table, site, partition), exists, partition)
+        let mut newest = Newest::none(ranks);
+        self.node(layout::node(table, site, partition), exists, partition, &mut newest)
+            && newest.are(layout::kept(table, site, partition))
             && (0..SITES - 1).all(channel)
     }
 
@@ -80,12 +87,22 @@ impl Setting {
             && (32..128).step_by(32).all(|at| self.vector(bytes, at))
     }
 
-    fn node(&self, bytes: &NodeBytes, exists: bool, partition: usize) -> bool {
+    /// The node's own bytes. Its lawful records are seen by `newest` on the way.
+    #[inline]
+    fn node(&self, bytes: &NodeBytes, exists: bool, at: usize, newest: &mut Newest) -> bool {
         let count = bytes[40] as usize;
+        let mut record = |slot| {
+            let record = layout::record(bytes, slot);
+            let lawful = self.record(record, at);
+            if lawful {
+                newest.see(record, slot);
+            }
+            lawful
+        };
         count <= if exists { RECORDS } else { 0 }
             && layout::word(bytes, 0) <= LAST_TIME
             && self.vector(bytes, 8)
-            && (0..count).all(|slot| self.record(layout::record(bytes, slot), partition))
+            && (0..count).all(&mut record)
     }
 
     fn channel(&self, bytes: &ChannelBytes, exists: bool, from: usize, partition: usize) -> bool {

@@ -17,6 +17,9 @@ pub(super) type NodeBytes = [u8; 1_856];
 pub(super) type ChannelBytes = [u8; 464];
 /// The bytes of a record or a message.
 pub(super) type RecordBytes = [u8; 48];
+/// The kept places of a node, one for each key: the slot of the key's newest record,
+/// counted from 1, or 0 where the node holds none.
+pub(super) type KeptBytes = [u8; 64];
 
 /// The kind of a stored record and of an update.
 pub(super) const UPDATE: u8 = 1;
@@ -42,6 +45,12 @@ pub fn partition_part(site: usize, partition: usize) -> (Range<usize>, Range<usi
     (node..node + 1_856, channel..channel + 3 * 464)
 }
 
+/// The kept places of a node, one byte for each key.
+pub fn kept_part(site: usize, partition: usize) -> Range<usize> {
+    let first = 56_320 + 64 * (4 * site + partition);
+    first..first + 64
+}
+
 /// The session with a number.
 #[inline]
 pub(super) fn session(table: &Table, session: usize) -> &SessionBytes {
@@ -58,6 +67,12 @@ pub(super) fn node(table: &Table, site: usize, partition: usize) -> &NodeBytes {
 #[inline]
 pub(super) fn channel(table: &Table, from: usize, partition: usize, place: usize) -> &ChannelBytes {
     part(table, partition_part(from, partition).1.start + 464 * place)
+}
+
+/// The kept places of the node of a partition at a site.
+#[inline]
+pub(super) fn kept(table: &Table, site: usize, partition: usize) -> &KeptBytes {
+    part(table, kept_part(site, partition).start)
 }
 
 /// The place of a site among the sites other than `from`.

@@ -1,5 +1,5 @@
 -- `decision::pages::read` meets its contract: each return is a rung of the ladder.
-use mathlib.Core.Path.{_≡_, sym, ap, _∙_}
+use mathlib.Core.Path.{_≡_, sym, _∙_}
 use mathlib.Core.Bool.{true}
 use borrow.Author.Tests.{not-true, not-false}
 use borrow.Author.Needs.{needs}
@@ -12,7 +12,6 @@ use Rattle.protocol.specs.Event.{READ}
 use Rattle.protocol.proofs.Ladders.{if-page, readOf}
 use Rattle.parts.specs.Meaning.{asSession}
 use Rattle.search.specs.Found.{foundOf}
-use Rattle.search.proofs.Fit.{fits-page}
 use Rattle.table.specs.Decode.{settingIn, decode}
 use Rattle.decision.specs.Answered.{answered}
 use Rattle.decision.proofs.Ladders.{seenBy, heardBy, storedBy, read-says}
@@ -59,12 +58,7 @@ shows : (c : tie.After-newest) → let k = loaded (c .before .before .before .be
     let a = k .before .before .args in
     foundOf (c .newest .result) ≡ found (settingIn (a .t .now)) (fitsPage (a .k) (asVec (x .snapshot))) (storedBy (a .t .now) (x .site) (a .k))
 unfolding loaded
-shows c =
-    let k = loaded (c .before .before .before .before .before) in
-    let a = k .before .before .args in
-    let x = k .session .result in
-    rw (c .before .before .before .before .partition .ensures .0) at (c .newest .ensures .0)
-    ∙ ap (λ fit. found (settingIn (a .t .now)) fit (storedBy (a .t .now) (x .site) (a .k))) (fits-page (a .k) (x .snapshot))
+shows c = c .newest .ensures .0 ∙ rw (c .before .before .before .before .partition .ensures .0)
 
 -- ---- the needs
 

@@ -11,7 +11,6 @@ use Rattle.protocol.specs.Event.{GET}
 use Rattle.protocol.proofs.Ladders.{if-no-page, getOf}
 use Rattle.parts.specs.Meaning.{asSession}
 use Rattle.search.specs.Found.{foundOf}
-use Rattle.search.proofs.Fit.{fits-get}
 use Rattle.table.specs.Decode.{settingIn, decode}
 use Rattle.decision.specs.Answered.{answered}
 use Rattle.decision.proofs.Ladders.{seenBy, heardBy, storedBy, get-says}
@@ -50,11 +49,11 @@ unfolding loaded
 ready c = c .at-most-but .ensures ∙ rw (hears (c .before))
 
 -- and what is found the newest of its records
-shows : (c : tie.After-newest) → let k = loaded (c .before .before .before .before .before) in
+shows : (c : tie.After-at-hand) → let k = loaded (c .before .before .before .before .before) in
     let a = k .before .before .args in
-    foundOf (c .newest .result) ≡ found (settingIn (a .t .now)) (ofKey (a .k)) (storedBy (a .t .now) (k .session .result .site) (a .k))
+    foundOf (c .at-hand .result) ≡ found (settingIn (a .t .now)) (ofKey (a .k)) (storedBy (a .t .now) (k .session .result .site) (a .k))
 unfolding loaded
-shows c = c .newest .ensures .0 ∙ rw (fits-get, c .before .before .before .before .partition .ensures .0)
+shows c = c .at-hand .ensures .0 ∙ rw (c .before .before .before .before .partition .ensures .0)
 
 -- ---- the needs
 
@@ -105,18 +104,18 @@ returns-3 c =
     let e2 = u .before .before .before .before in
     c .waits-to-hear .ensures ∙ sym (says (e2 .before .before .before) ∙ rw (is-open (e2 .before), e2 .if2 .left, sym (ready u), not-true (u .at-most-but .result) (c .before .if3 .taken), sym (hears (u .before))))
 
-newest-requires : tie.Need-newest-requires
-newest-requires c κs =
+at-hand-requires : tie.Need-at-hand-requires
+at-hand-requires c κs =
     let h = c .before .before in
     let e = h .before .before .before .before in
     let k = e .before .before in
-    (search needs, k .before .before .pre .1, k .session .ensures .2 (is-open e), h .before .partition .ensures .1)
+    (search needs, k .before .before .pre .1, k .session .ensures .2 (is-open e), h .before .partition .ensures .1, k .before .before .pre .3)
 
 shown-requires : tie.Need-shown-requires
 shown-requires c κs = search needs
 
 raised-by-requires : tie.Need-raised-by-requires
-raised-by-requires c κs = c .before .newest .ensures .1
+raised-by-requires c κs = c .before .at-hand .ensures .1
 
 kept-requires : tie.Need-kept-requires
 kept-requires c κs = search needs
@@ -147,7 +146,7 @@ get-spec =
     cast-waits-to-hear
     waits-to-hear-requires
     returns-3
-    newest-requires
+    at-hand-requires
     shown-requires
     raised-by-requires
     kept-requires

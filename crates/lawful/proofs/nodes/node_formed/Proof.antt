@@ -1,9 +1,11 @@
 -- `lawful::nodes::node_formed` meets its contract, whichever test fails first.
-use mathlib.Core.Path.{sym}
+use mathlib.Core.Path.{sym, ap}
+use mathlib.Core.Bool.{_&&_}
 use borrow.Author.Tests.{lt-leb, le-leb}
-use Rattle.codec.proofs.Tests.{fails, passes, every-fails, every-last}
+use Rattle.codec.proofs.Tests.{no-and, fails, passes, every-fails, every-last}
+use Rattle.protocol.specs.Meaning.{settingOf}
 use Rattle.parts.specs.Node.{heardIn}
-use Rattle.lawful.specs.WellFormed.{nodeFormed}
+use Rattle.lawful.specs.WellFormed.{nodeFormed, keptFormed}
 use Rattle.lawful.proofs.nodes.node_formed.Statement.{statement}
 use Rattle.lawful.proofs.nodes.node_formed.Tie as tie
 use borrow.Author.Needs.{needs}
@@ -18,7 +20,7 @@ returns : tie.Need-returns
 unfolding nodeFormed
 returns c =
     let many = rw (c .before .most .ensures .0, c .before .before .before .before .held .ensures) at (c .if1 .taken) in
-    sym (every-fails _ 2 (lt-leb _ _ many))
+    no-and _ (every-fails _ 2 (lt-leb _ _ many))
 
 clock-requires : tie.Need-clock-requires
 clock-requires c κs = search needs
@@ -30,7 +32,7 @@ returns-2 : tie.Need-returns-2
 unfolding nodeFormed
 returns-2 c =
     let no = rw (c .before .before .clock .ensures) at (fails (c .before .time-lawful .ensures) (c .if2 .taken)) in
-    sym (every-fails _ 0 no)
+    no-and _ (every-fails _ 0 no)
 
 vector-formed-requires : tie.Need-vector-formed-requires
 vector-formed-requires c κs = search needs
@@ -39,7 +41,7 @@ returns-3 : tie.Need-returns-3
 unfolding nodeFormed heardIn
 returns-3 c =
     let no = fails (c .before .vector-formed .ensures) (c .if3 .taken) in
-    sym (every-fails _ 1 no)
+    no-and _ (every-fails _ 1 no)
 
 records-formed-requires : tie.Need-records-formed-requires
 records-formed-requires c κs = search needs
@@ -54,7 +56,8 @@ returns-4 c =
     let few = rw (at .before .most .ensures .0, held) at (at .if1 .left) in
     let yesVec = passes (vec .before .vector-formed .ensures) (vec .if3 .left) in
     let yesTime = rw (time .before .before .clock .ensures) at (passes (time .before .time-lawful .ensures) (time .if2 .left)) in
-    rw (c .records-formed .ensures, held) (sym (every-last _ (yesTime, (yesVec, (le-leb _ _ few, tt)))))
+    let a = at .before .before .before .before .before .before .before .args in
+    rw (c .records-formed .ensures, held) (ap (λ b. b && keptFormed (settingOf (a .setting)) (a .n .now) (a .s .now)) (sym (every-last _ (yesTime, (yesVec, (le-leb _ _ few, tt))))))
 
 pub node-formed-spec : {M : Type 1} → statement M
 node-formed-spec =

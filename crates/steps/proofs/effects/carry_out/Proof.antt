@@ -11,7 +11,7 @@ use Rattle.steps.proofs.effects.carry_out.Tie as tie
 
 -- what fits, of an effect that is known
 fits : (s : tie.Start) (w : Effect) → s .args .d .effect ≡ w → FitsAll (changesIf (s .args .d) w) (s .args .t .now)
-fits s w e = told (λ cs. FitsAll cs (s .args .t .now)) (s .args .d) w e (s .pre .3)
+fits s w e = told (λ cs. FitsAll cs (s .args .t .now)) (s .args .d) w e (s .pre .1)
 
 -- what is then put
 puts : (s : tie.Start) (w : Effect) → s .args .d .effect ≡ w → putChanges (changesIf (s .args .d) w) (s .args .t .now) ≡ putChanges (changesIf (s .args .d) (s .args .d .effect)) (s .args .t .now)
@@ -62,8 +62,7 @@ publish-requires : tie.Need-publish-requires
 publish-requires c κs =
     let k = c .before .before in
     let s = k .before .before .before .before .before in
-    let f = fits s _ (k .effect3 .given .1) .0 in
-    (s .pre .0, s .pre .1, s .pre .2, omega arith, f .partition, f .room, f .ways)
+    fits s _ (k .effect3 .given .1) .0
 
 enum-known-effect-4 : tie.Need-enum-known-effect-4
 enum-known-effect-4 c = search needs
@@ -78,8 +77,7 @@ publish-requires-2 : tie.Need-publish-requires-2
 publish-requires-2 c κs =
     let k = c .before .before in
     let s = k .before .before .before .before .before in
-    let f = fits s _ (k .effect4 .given .1) .0 in
-    (s .pre .0, s .pre .1, s .pre .2, omega arith, f .partition, f .room, f .ways)
+    fits s _ (k .effect4 .given .1) .0
 
 cast-set-session-2 : tie.Need-cast-set-session-2
 cast-set-session-2 c = search needs
@@ -107,8 +105,7 @@ receive-requires : tie.Need-receive-requires
 receive-requires c κs =
     let k = c .before .before in
     let s = k .before .before .before .before .before in
-    let f = fits s _ (k .effect5 .given .1) .0 in
-    (s .pre .0, f .source, f .site, f .partition, f .other, f .room, f .waits)
+    fits s _ (k .effect5 .given .1) .0
 
 returns : tie.Need-returns
 unfolding putChanges

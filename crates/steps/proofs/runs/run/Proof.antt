@@ -19,7 +19,7 @@ abbrev μ-loop : tie.MeasureT-loop
 loop-holds : tie.Need-loop-holds Inv-loop μ-loop
 loop-holds c =
     let a = c .before .before .before .args in
-    (omega arith, record { size = refl; long = search needs; bytes = c .before .before .slice-known .given; formed = search needs }, refl, run-none pieceCall (a .t .now) (a .es .now) (a .b .now))
+    (omega arith, record { size = refl; whole = search needs; bytes = c .before .before .slice-known .given; formed = search needs }, refl, run-none pieceCall (a .t .now) (a .es .now) (a .b .now))
 
 answer-piece-requires : tie.Need-answer-piece-requires Inv-loop μ-loop
 answer-piece-requires c κs = search needs

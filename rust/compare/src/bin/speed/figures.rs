@@ -23,36 +23,44 @@ impl Figures {
     }
 }
 
-/// Prints the rows of both scenes, then the ratios and the targets.
-pub fn print(empty: &Figures, full: &Figures) {
+/// Prints the rows of both scenes and those of the GETs, then the ratios and the targets.
+pub fn print(empty: &Figures, full: &Figures, gets: &Figures) {
+    print_rows(&NAMES, &[empty, full]);
+    print_rows(&[NAMES[RUN], NAMES[STRUCTS]], &[gets]);
     println!();
-    println!("{:34}{:>24}{:>24}", "", empty.name, full.name);
-    println!("{:34}{:>14}{:>10}{:>14}{:>10}", "", "events/s", "ns", "events/s", "ns");
-    for (row, name) in NAMES.iter().enumerate() {
-        let columns = [empty, full].map(|figures| {
+    ratio("checked step / plain with the check", STEP, PLAIN_STEP, &[(empty, 0.8), (full, 0.85)]);
+    ratio("run / over structs", RUN, STRUCTS, &[(empty, 0.5), (full, 0.5)]);
+    ratio("run / checked step", RUN, STEP, &[(full, 10.0)]);
+    println!("{:38}{:>8.2}{:>8.2}", "check: core / plain", check(empty), check(full));
+    println!("{:38}{:>16.2}", "GETs: run / over structs", gets.ratio(0, 1));
+}
+
+/// Prints some rows, with a column for each scene.
+fn print_rows(names: &[&str], scenes: &[&Figures]) {
+    let heads: String = scenes.iter().map(|figures| format!("{:>24}", figures.name)).collect();
+    let units = format!("{:>14}{:>10}", "events/s", "ns").repeat(scenes.len());
+    println!("\n{:34}{heads}\n{:34}{units}", "", "");
+    for (row, name) in names.iter().enumerate() {
+        let columns = scenes.iter().map(|figures| {
             let each = figures.nanoseconds[row];
             format!("{:>14}{each:>10.1}", grouped((1e9 / each) as u64))
         });
-        println!("{name:34}{}", columns.concat());
+        println!("{name:34}{}", columns.collect::<String>());
     }
-    println!();
-    ratio("checked step / plain with the check", STEP, PLAIN_STEP, 0.8, &[empty, full]);
-    ratio("run / over structs", RUN, STRUCTS, 0.5, &[empty, full]);
-    ratio("run / checked step", RUN, STEP, 10.0, &[full]);
-    println!("{:38}{:>8.2}{:>8.2}", "check: core / plain", check(empty), check(full));
 }
 
 fn check(figures: &Figures) -> f64 {
     figures.ratio(CHECK, PLAIN_CHECK)
 }
 
-/// A ratio with its target, on some of the scenes.
-fn ratio(name: &str, row: usize, other: usize, least: f64, scenes: &[&Figures]) {
-    let ratios: Vec<f64> = scenes.iter().map(|figures| figures.ratio(row, other)).collect();
-    let numbers: String = ratios.iter().map(|ratio| format!("{ratio:>8.2}")).collect();
-    let names: Vec<&str> = scenes.iter().map(|figures| figures.name).collect();
-    let met = verdict(ratios.iter().all(|ratio| *ratio >= least));
-    println!("{name:38}{numbers:>16}   target {least} ({}): {met}", names.join(" and "));
+/// A ratio on some scenes, each with its target.
+fn ratio(name: &str, row: usize, other: usize, scenes: &[(&Figures, f64)]) {
+    let ratios = scenes.iter().map(|(figures, _)| figures.ratio(row, other));
+    let numbers: String = ratios.clone().map(|ratio| format!("{ratio:>8.2}")).collect();
+    let targets: Vec<String> =
+        scenes.iter().map(|(figures, least)| format!("{least} ({})", figures.name)).collect();
+    let met = verdict(ratios.zip(scenes).all(|(ratio, (_, least))| ratio >= *least));
+    println!("{name:38}{numbers:>16}   target {}: {met}", targets.join(", "));
 }
 
 /// Whether a target is met, in a word.

@@ -1,5 +1,5 @@
 //! How fast the proved archive is, beside the independent implementation: the
-//! same streams, an almost empty and a full table, in one run.
+//! same streams, an almost empty and a full table, and GETs on full nodes, in one run.
 //!
 //! `cargo run --release --bin speed`, with `-- --quick` for a short one. The two
 //! bench programs are measured as well where they have been built.
@@ -14,6 +14,7 @@ use std::env;
 use std::process::ExitCode;
 
 use figures::Figures;
+use rows::Row;
 use scene::Scene;
 
 /// How much is measured.
@@ -40,9 +41,10 @@ fn main() -> ExitCode {
         }
     };
     println!("{} events a stream, median of {} rounds", effort.events, effort.rounds);
-    let empty = measure(Scene::almost_empty(effort.events), &effort);
-    let full = measure(Scene::full(effort.events), &effort);
-    figures::print(&empty, &full);
+    let empty = measure(Scene::almost_empty(effort.events), &effort, rows::all);
+    let full = measure(Scene::full(effort.events), &effort, rows::all);
+    let gets = measure(Scene::gets(effort.events), &effort, rows::unchecked);
+    figures::print(&empty, &full, &gets);
     match files::measure(effort.file, 7) {
         Ok(times) => files::print(&times),
         Err(reason) => println!("bench programs: not measured ({reason})"),
@@ -50,9 +52,9 @@ fn main() -> ExitCode {
     ExitCode::SUCCESS
 }
 
-/// All rows on one scene.
-fn measure(scene: Scene, effort: &Effort) -> Figures {
+/// Some rows on one scene.
+fn measure(scene: Scene, effort: &Effort, rows: fn(&Scene) -> Vec<Row>) -> Figures {
     println!("{scene}");
     rows::agree(&scene);
-    Figures::new(scene.name, rounds::medians(&scene, effort.rounds), effort.events)
+    Figures::new(scene.name, rounds::medians(&scene, effort.rounds, rows), effort.events)
 }

@@ -3,8 +3,9 @@
 use std::fmt;
 
 use level_archive::Archive;
-use plain::limits::{MESSAGES, PAGE_KEYS, PARTITIONS, RECORDS, SESSIONS, SITES};
+use plain::limits::{KEYS, MESSAGES, PAGE_KEYS, PARTITIONS, RECORDS, SESSIONS, SITES};
 use plain::make::{self, Bytes};
+use plain::random::Random;
 use plain::stream::{Stream, Style};
 
 /// The same state as structs and as bytes, and what comes next.
@@ -40,14 +41,7 @@ impl Scene {
     /// Every node holds 32 records and every channel four messages; all sessions
     /// are open, and half of them have a page that is half read.
     pub fn full(length: usize) -> Scene {
-        let mut script = Script::new(length, 0);
-        (0..SESSIONS)
-            .for_each(|number| script.put(make::open(number as u8, (number % SITES) as u8)));
-        (0..RECORDS * PARTITIONS).for_each(|number| script.put_one(number));
-        script.beat_all(1_000);
-        while let Some(deliver) = script.waiting(1) {
-            script.put(deliver);
-        }
+        let mut script = Script::filled(length);
         (SESSIONS / 2..SESSIONS).for_each(|session| script.open_page(session as u8));
         (1..=MESSAGES / 2).for_each(|turn| script.beat_all(1_000 + turn as u64));
         script.before = std::mem::take(&mut script.events);
@@ -57,6 +51,22 @@ impl Scene {
         }
         script.scene("full", length)
     }
+
+    /// Every node holds 32 records and has heard all; all sessions are open without a
+    /// page. The stream is GETs, of any session and any key, and none of them waits.
+    pub fn gets(length: usize) -> Scene {
+        let mut script = Script::filled(length);
+        script.before = std::mem::take(&mut script.events);
+        let mut random = Random::new(1);
+        for _ in 0..length {
+            script.put(make::get(random.below(SESSIONS) as u8, random.below(KEYS) as u8));
+        }
+        let scene = script.scene("GETs on full nodes", length);
+        let mut archive = scene.archive.clone();
+        let mut answers = scene.events.chunks(32).map(|event| archive.step(event).number);
+        assert!(answers.all(|number| number == 1 || number == 2), "a GET isn't served");
+        scene
+    }
 }
 
 impl Script {
@@ -64,6 +74,20 @@ impl Script {
     fn new(length: usize, fill: usize) -> Script {
         let style = Style { fill, damage: 0, ..Style::bench(length) };
         Script { stream: Stream::new(1, style), before: Vec::new(), events: Vec::new() }
+    }
+
+    /// All sessions are open, every node holds 32 records, and every message of these
+    /// and of a heartbeat from each node is delivered.
+    fn filled(length: usize) -> Script {
+        let mut script = Script::new(length, 0);
+        (0..SESSIONS)
+            .for_each(|number| script.put(make::open(number as u8, (number % SITES) as u8)));
+        (0..RECORDS * PARTITIONS).for_each(|number| script.put_one(number));
+        script.beat_all(1_000);
+        while let Some(deliver) = script.waiting(1) {
+            script.put(deliver);
+        }
+        script
     }
 
     /// Adds an event of our own.
@@ -131,7 +155,7 @@ impl fmt::Display for Scene {
     fn fmt(&self, f: &mut fmt::Formatter<'_>) -> fmt::Result {
         let mut later = self.archive.clone();
         self.events.chunks(32).for_each(|event| assert!(later.step(event).number < 23));
-        writeln!(f, "{} table: {}", self.name, holds(&self.archive))?;
+        writeln!(f, "{}: {}", self.name, holds(&self.archive))?;
         write!(f, "  after its stream: {}", holds(&later))
     }
 }
