@@ -7,7 +7,7 @@ use Rattle.protocol.specs.Search.{newestPlace}
 use Rattle.record.specs.RecordBytes.{recordAt}
 use Rattle.parts.specs.Node.{slotAt, heldIn}
 
--- R29: the place, from 1, of the newest record of key k that the node n holds; 0 where it holds none
+-- R19: the place, from 1, of the newest record of key k that the node n holds; 0 where it holds none
 unfoldable pub placeIn : Setting → (n : List ℕ) → (k : ℕ) → ℕ
 placeIn c n k = newestPlace c (ofKey k) (λ i. recordAt n (slotAt i)) (heldIn n)
 

@@ -28,7 +28,7 @@ putCore (SetClock m p c) t = onSite m (onNode p (clockSet c)) t
 putCore (Publish m p x) t = onSite m (publishedOn (load 1 t 0 - 1) m p x) t
 putCore (Receive i m p x) t = onSite i (onChannel p (placeOf i m) popped) (onSite m (onNode p (received i x)) t)
 
--- R29: the kept places of node (m, p) as the search finds them
+-- R19: the kept places of node (m, p) as the search finds them
 unfoldable pub keptAnew : (m p : ℕ) → List ℕ → List ℕ
 keptAnew m p t = onKept m p (λ s. placesIn (settingIn t) (nodeOf (siteOf t m) p)) t
 
