@@ -272,39 +272,37 @@ module _ (t u : List ℕ) (l : Whole t) (l′ : length u ≡ length t) (m p : �
       ap (λ k. placesIn k (nodeOf (siteOf u m) p)) (sym c) ∙ places-same (settingIn t) (nodeOf (siteOf t m) p) (nodeOf (siteOf u m) p) (sym e) in
       rw same (twin-onPart (keptAt m p) 64 (λ s. places) t u (omega arith) (sym l′) (λ s k. length-places (settingIn t) (nodeOf (siteOf t m) p)) (λ j. inr refl))
 
--- t and u became v and w, in which node (m, p) has the message x too
-stored-alike : (t u v w : List ℕ) (m p : ℕ) (x : Msg) → p < settingIn t .partitions → AlikeAt t u m → storeIn (nodeOf (siteOf v m) p) ≡ storeIn (nodeOf (siteOf t m) p) ++ recordsIn x
-    → storeIn (nodeOf (siteOf w m) p) ≡ storeIn (nodeOf (siteOf u m) p) ++ recordsIn x → storeIn (nodeOf (siteOf v m) p) ≡ storeIn (nodeOf (siteOf w m) p)
-unfolding decode
-stored-alike t u v w m p x g a e f = e ∙ ap (λ s. s ++ recordsIn x) (a .store p (λ o. g)) ∙ sym f
-
 -- ---- any change, and many
 
 module _ (c : Change) (t u : List ℕ) (l : Long t) (l′ : length u ≡ length t) (fit : Fits c t) (fit′ : Fits c u) where
-  core-length : length (putCore c u) ≡ length (putCore c t)
-  core-length = length-putCore c u (as-long t u l l′) fit′ ∙ l′ ∙ sym (length-putCore c t l fit)
+  abbrev v : List ℕ
+  v = putCore c t
 
-  core-setting : settingIn t ≡ settingIn u → settingIn (putCore c t) ≡ settingIn (putCore c u)
-  core-setting e = setting-core c t l fit ∙ e ∙ sym (setting-core c u (as-long t u l l′) fit′)
+  abbrev w : List ℕ
+  w = putCore c u
 
-  core-whole : Whole t → Whole (putCore c t)
-  core-whole w = whole-still t (putCore c t) (length-putCore c t l fit) w
+  -- after which node (m, p) has the message x too
+  twin-kept : (m p : ℕ) (x : Msg) → Whole t → m < 4 → p < 4 → p < settingIn t .partitions → AlikeAt t u m
+      → storeIn (nodeOf (siteOf v m) p) ≡ storeIn (nodeOf (siteOf t m) p) ++ recordsIn x → storeIn (nodeOf (siteOf w m) p) ≡ storeIn (nodeOf (siteOf u m) p) ++ recordsIn x
+      → Twin t v u w → Twin t (keptAnew m p v) u (keptAnew m p w)
+  unfolding decode
+  twin-kept m p x whole h g there a e f core =
+      let k = length-putCore c t l fit in
+      let k′ = length-putCore c u (as-long t u l l′) fit′ in
+      twin-then core
+      (twin-anew v w (whole-still t v k whole) (k′ ∙ l′ ∙ sym k) m p h g (setting-core c t l fit ∙ a .setting ∙ sym (setting-core c u (as-long t u l l′) fit′))
+      (e ∙ ap (λ s. s ++ recordsIn x) (a .store p (λ o. there)) ∙ sym f))
 
 twin-change : (c : Change) (t u : List ℕ) → Long t → length u ≡ length t → Fits c t → Fits c u → Seen c t u → Twin t (putChange c t) u (putChange c u)
-unfolding putChange keptAfter decode
+unfolding putChange keptAfter
 twin-change (SetSession s x) t u l l′ fit fit′ seen = unfold putCore in twin-atSession t u l l′ s x (fit .0)
 twin-change (SetClock m p k) t u l l′ fit fit′ seen = unfold putCore in twin-clock t u l l′ m p k (fit .0) (fit .1)
 twin-change (Publish m p x) t u l l′ fit fit′ seen =
-    let c = Publish m p x in
-    let h : m < 4 = omega (arith, fit .site, fit .sites) in
-    twin-then (twin-publish t u l l′ m p x fit seen)
-    (twin-anew (putCore c t) (putCore c u) (core-whole c t u l l′ fit fit′ (fit .whole)) (core-length c t u l l′ fit fit′) m p h (fit .partition) (core-setting c t u l l′ fit fit′ (seen .0 .setting))
-    (stored-alike t u (putCore c t) (putCore c u) m p x (seen .1) (seen .0) (published-store m p x t fit) (published-store m p x u fit′)))
+    twin-kept (Publish m p x) t u l l′ fit fit′ m p x (fit .whole) (omega (arith, fit .site, fit .sites)) (fit .partition) (seen .1) (seen .0)
+    (published-store m p x t fit) (published-store m p x u fit′) (twin-publish t u l l′ m p x fit seen)
 twin-change (Receive i m p x) t u l l′ fit fit′ seen =
-    let c = Receive i m p x in
-    twin-then (twin-receive t u l l′ i m p x fit seen)
-    (twin-anew (putCore c t) (putCore c u) (core-whole c t u l l′ fit fit′ (fit .whole)) (core-length c t u l l′ fit fit′) m p (fit .site) (fit .partition) (core-setting c t u l l′ fit fit′ (seen .0 .setting))
-    (stored-alike t u (putCore c t) (putCore c u) m p x (seen .1) (seen .0) (received-store i m p x t fit) (received-store i m p x u fit′)))
+    twin-kept (Receive i m p x) t u l l′ fit fit′ m p x (fit .whole) (fit .site) (fit .partition) (seen .1) (seen .0)
+    (received-store i m p x t fit) (received-store i m p x u fit′) (twin-receive t u l l′ i m p x fit seen)
 
 pub twin-changes : (cs : List Change) (t u : List ℕ) → Long t → length u ≡ length t → FitsAll cs t → FitsAll cs u → SeenAll cs t u → Twin t (putChanges cs t) u (putChanges cs u)
 unfolding putChanges

@@ -4,7 +4,6 @@ use Prim.Native.Nat.{ℕ, _+_, _*_, _/_, _%_, _≤_, _<_}
 use native.Mathlib.Omega.{arith}
 use native.Mathlib.Decide.{ℕ-discrete}
 use mathlib.Core.Path.{_≡_, sym, ap, subst, _∙_}
-use mathlib.Core.Bool.{Bool}
 use mathlib.Core.Bool.{Bool, _&&_}
 use mathlib.Core.List.{List}
 use lib.Dec.{T, eqb, eqb→eq}
@@ -14,7 +13,6 @@ use borrow.Author.Tests.{eq-eqb, ne-eqb}
 use Rattle.codec.specs.Le.{load, Bytes}
 use Rattle.codec.specs.Below.{allBelow}
 use Rattle.codec.proofs.Le.{load-byte, load-ext, same-bytes}
-use Rattle.codec.proofs.Tabulate.{tab-is, tab-at}
 use Rattle.codec.proofs.Tests.{same-test, yes-eqb, and-turn}
 use Rattle.codec.proofs.Below.{all-below, all-below-at, allBelow-ext, allBelow-and}
 use Rattle.protocol.specs.Record.{Setting, Rec, ofKey}
@@ -23,6 +21,7 @@ use Rattle.protocol.proofs.Places.{place-none, place-step, place-at-most, bette
 use Rattle.record.specs.RecordBytes.{recordAt}
 use Rattle.parts.specs.Node.{slotAt, heldIn}
 use Rattle.search.specs.Kept.{placeIn, placesIn}
+use Rattle.search.proofs.Kept.{places-at, places-are}
 use Rattle.lawful.specs.WellFormed.{keptFormed}
 
 -- ---- the newest of each key
@@ -68,8 +67,8 @@ module _ (n best : List ℕ) where
           ∙ sym (place-step c (ofKey k) f i)
 
   pub bests-all : length best ≡ 64 → Bests n (heldIn n) best → (c : Setting) → best ≡ placesIn c n
-  unfolding placesIn placeIn
-  bests-all l h c = tab-is 64 (placeIn c n) best 0 l (λ k b. h k b c)
+  unfolding placeIn
+  bests-all l h c = places-are c n best l (λ k b. h k b c)
 
 -- ---- bytes and words
 
@@ -100,10 +99,10 @@ words-are-bytes a b p q = same-test (allBelow 8 words) (allBelow 64 bytes) (λ t
 -- ---- the bytes s beside the places
 
 pub kept-bytes : (c : Setting) (n s : List ℕ) → allBelow 64 (λ k. eqb (load 1 s k) (load 1 (placesIn c n) k)) ≡ keptFormed c n s
-unfolding keptFormed placesIn
+unfolding keptFormed
 kept-bytes c n s =
     allBelow-ext 64 (λ k. eqb (load 1 s k) (load 1 (placesIn c n) k)) (λ k. eqb (load 1 s k) (placeIn c n k))
-    (λ k h. ap (eqb (load 1 s k)) (load-byte (placesIn c n) k ∙ tab-at 64 (placeIn c n) 0 k h))
+    (λ k h. ap (eqb (load 1 s k)) (load-byte (placesIn c n) k ∙ places-at c n k h))
 
 -- ---- nodes and their kept places tested together
 

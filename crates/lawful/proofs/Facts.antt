@@ -32,7 +32,7 @@ use Rattle.parts.specs.Channel.{ringAt, frontIn, waitIn, queueIn}
 use Rattle.parts.specs.Session.{markAt, sessionIn}
 use Rattle.parts.specs.Fits.{FitsMarks}
 use Rattle.search.specs.Kept.{placeIn, placesIn}
-use Rattle.search.proofs.Kept.{places-at, places-are}
+use Rattle.search.proofs.Kept.{held-length, places-at, places-are}
 use Rattle.table.specs.Parts.{Whole, placeOf, sessionOf, siteOf, nodeOf, channelOf, keptOf}
 use Rattle.table.specs.Decode.{settingIn, decode}
 use Rattle.table.proofs.Parts.{every-session}
@@ -230,8 +230,8 @@ cond-le true k n h = h
 cond-le false k n h = omega arith
 
 pub store-length : (t : List ℕ) (m p : ℕ) → length (decode t .net .store m p) ≡ heldIn (nodeOf (siteOf t m) p)
-unfolding decode storeIn
-store-length t m p = tab-length (heldIn (nodeOf (siteOf t m) p)) (λ k. recordAt (nodeOf (siteOf t m) p) (slotAt k))
+unfolding decode
+store-length t m p = held-length (nodeOf (siteOf t m) p)
 
 module _ (t : List ℕ) (F : Formed t) where
   session-said : Bytes t → (s : ℕ) → s < 16 → LawfulSession (settingIn t) (decode t .session s)

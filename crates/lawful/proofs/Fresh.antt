@@ -62,12 +62,16 @@ module _ (c t : Setting) (u : List ℕ) (says : decode u ≡ setup c) where
   unfolding decode setup
   session-setup s = ap (λ S. S .session s) says
 
+  held-setup : (m p : ℕ) → heldIn (nodeOf (siteOf u m) p) ≡ 0
+  unfolding setup
+  held-setup m p = sym (store-length u m p) ∙ ap (λ S. length (S .net .store m p)) says
+
   node-setup : (m p : ℕ) → NodeFacts t m p (nodeOf (siteOf u m) p)
   unfolding decode setup timeLawful
   node-setup m p =
       let clock : clockIn (nodeOf (siteOf u m) p) ≡ 0 = ap (λ S. S .net .clock m p) says in
       let heard : heardIn (nodeOf (siteOf u m) p) ≡ zeros = ap (λ S. S .net .heard m p) says in
-      let held : heldIn (nodeOf (siteOf u m) p) ≡ 0 = sym (store-length u m p) ∙ ap (λ S. length (S .net .store m p)) says in
+      let held = held-setup m p in
       record {
         clock = rw clock tt;
         heard = rw heard (vec-lawful t zeros (zeros-lawful t));
@@ -86,11 +90,10 @@ module _ (c t : Setting) (u : List ℕ) (says : decode u ≡ setup c) where
 
 -- nothing is held, and nothing is kept
 kept-fresh : (c : Setting) → decode (fresh c) ≡ setup c → Kept (fresh c)
-unfolding decode setup
 kept-fresh c says m p h g =
     let t = fresh c in
     let n = nodeOf (siteOf t m) p in
-    let held : heldIn n ≡ 0 = sym (store-length t m p) ∙ ap (λ S. length (S .net .store m p)) says in
+    let held = held-setup c c t says m p in
     places-are (settingIn t) n (keptOf t m p) (length-kept t m p (omega (arith, length-fresh c)) h g)
     (λ k b.
     rw (kept-is t m p h g)

@@ -1,15 +1,16 @@
--- The order of records and the search for the newest. The rules to use: `no-older-refl`, `no-older-trans`, `newer-trans`, `newer-no-older`, and
--- `newest-is`, which says of any test what the search finds. Nobody above looks into `newer` or `rank`.
+-- The order of records and the search for the newest. The rules to use: `newer-by-source`, `newer-by-stamp`, `no-older-refl`, `no-older-trans`, `newer-trans`,
+-- `newer-no-older`, and `newest-is`, which says of any test what the search finds. Nobody above looks into `newer` or `rank`.
 use Prim.Native.Nat.{ℕ, _≤_, _<_}
 use native.Mathlib.Decide.{decLt}
 use native.Mathlib.Omega.{arith}
 use mathlib.Core.Path.{_≡_, refl, sym, subst}
 use mathlib.Core.Logic.{_⊎_, inl, inr}
-use mathlib.Core.Bool.{Bool, not, _&&_, _||_}
+use mathlib.Core.Bool.{Bool, not, _&&_, _||_, or-false}
 use mathlib.Core.List.{List, [], _∷_, List·Memᴰ·head, List·Memᴰ·tail, List·Memᴰ·cases-cons, List·Memᴰ·not-nil}
 use mathlib.Core.Option.{Option, some, none}
 use lib.Dec.{T, ltb, eqb, lt→ltb}
 use mir.Facts.{T-not, not-T, and-yes, yes-and, and-no, or-yes, or-no, ltb-yes, ltb-no, eqb-yes}
+use borrow.Author.Tests.{le-ltb, eq-eqb, ne-eqb}
 use Rattle.codec.proofs.Tests.{cond-elim, yes-or-l, yes-or-r, yes-eqb}
 use Rattle.vector.specs.Vec.{Vec}
 use Rattle.vector.proofs.Vec.{LeV, le-refl, raised-up}
@@ -56,6 +57,15 @@ as-great-trans s r s′ r′ s″ r″ (inr a) (inr b) = inr (omega arith)
 module _ (c : Setting) where
   abbrev rankOf : Id → ℕ
   rankOf x = rank c (x .key) (x .source)
+
+  -- as a program compares: where the stamps are equal the sources decide, else the stamps
+  pub newer-by-source : (x y : Id) → y .stamp ≡ x .stamp → ltb (y .source) (x .source) ≡ newer c x y
+  unfolding newer rank
+  newer-by-source x y e = rw (le-ltb (y .stamp) (x .stamp) (omega arith), eq-eqb (y .stamp) (x .stamp) e)
+
+  pub newer-by-stamp : (x y : Id) → (y .stamp ≡ x .stamp → ⊥) → ltb (y .stamp) (x .stamp) ≡ newer c x y
+  unfolding newer
+  newer-by-stamp x y d = rw (ne-eqb (y .stamp) (x .stamp) d) (sym (or-false (ltb (y .stamp) (x .stamp))))
 
   pub no-older-refl : (x : Id) → NoOlder c x x
   unfolding NoOlder newer AsGreat

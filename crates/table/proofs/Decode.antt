@@ -1,5 +1,5 @@
 -- What a table says after a change is what the change makes of what it said. In order: what is read of a node or a channel that changed, each of the four
--- changes but for the kept places, then the laws for any change and for many. That changes keep bytes is in Bytes; a fresh table is in Fresh.
+-- changes but for the kept places (`store-..`: what each node then stores), then the laws for any change and for many. That changes keep bytes is in Bytes; a fresh table is in Fresh.
 use Prim.Native.Nat.{ℕ, _-_, _≤_, _<_}
 use native.Mathlib.Omega.{arith}
 use mathlib.Core.Path.{_≡_, refl, sym, ap, _∙_}
@@ -137,6 +137,9 @@ module _ (s : ℕ) (x : Session) (t : List ℕ) (l : Long t) (fit : Fits (SetSes
       ∙ cond-read sessionIn (eqb r s) (putSession x (sessionOf t r)) (sessionOf t r) x
       (λ e. let q : r ≡ s = eqb-yes e in session-putSession x (sessionOf t r) (length-session t r l (omega (arith, fit .0))) (fit .1))
 
+  pub store-setSession : (m p : ℕ) → storeIn (nodeOf (siteOf (putCore (SetSession s x) t) m) p) ≡ storeIn (nodeOf (siteOf t m) p)
+  store-setSession m p = ap (λ b. storeIn (nodeOf b p)) (site-setSession m)
+
   decode-setSession : decode (putCore (SetSession s x) t) ≡ apply (SetSession s x) (decode t)
   unfolding decode apply
   decode-setSession =
@@ -145,7 +148,7 @@ module _ (s : ℕ) (x : Session) (t : List ℕ) (l : Long t) (fit : Fits (SetSes
       setting-setSession
       (λ m p. ap (λ b. clockIn (nodeOf b p)) (site-setSession m))
       (λ m p. ap (λ b. heardIn (nodeOf b p)) (site-setSession m))
-      (λ m p. ap (λ b. storeIn (nodeOf b p)) (site-setSession m))
+      store-setSession
       (chan-kept t u (λ i q e. ap (λ b. channelOf b q e) (site-setSession i)))
       session-setSession
 
@@ -163,17 +166,23 @@ module _ (m p c : ℕ) (t : List ℕ) (l : Long t) (fit : Fits (SetClock m p c) 
   unfolding putCore
   setting-setClock = setting-site t m (onNode p (clockSet c)) l (fit .0) keeps-setClock
 
+  node-setClock : (j q : ℕ) → nodeOf (siteOf (putCore (SetClock m p c) t) j) q ≡ cond (at m p j q) (clockSet c (nodeOf (siteOf t j) q)) (nodeOf (siteOf t j) q)
+  unfolding putCore
+  node-setClock = node-atNode t m p (clockSet c) l (fit .0) (fit .1) (clockSet-keeps c)
+
+  pub store-setClock : (j q : ℕ) → storeIn (nodeOf (siteOf (putCore (SetClock m p c) t) j) q) ≡ storeIn (nodeOf (siteOf t j) q)
+  store-setClock = node-kept t (putCore (SetClock m p c) t) m p (clockSet c) node-setClock storeIn (store-clockSet c (nodeOf (siteOf t m) p))
+
   decode-setClock : decode (putCore (SetClock m p c) t) ≡ apply (SetClock m p c) (decode t)
   unfolding decode apply setClock putCore
   decode-setClock =
       let u = putCore (SetClock m p c) t in
       let n = nodeOf (siteOf t m) p in
-      let step = node-atNode t m p (clockSet c) l (fit .0) (fit .1) (clockSet-keeps c) in
       state-ext (decode u) (apply (SetClock m p c) (decode t))
       setting-setClock
-      (node-changed t u m p (clockSet c) step clockIn (λ j q. c) (clock-clockSet c n (length-nodeOf t m p l (fit .0) (fit .1)) (fit .2)))
-      (node-kept t u m p (clockSet c) step heardIn (heard-clockSet c n))
-      (node-kept t u m p (clockSet c) step storeIn (store-clockSet c n))
+      (node-changed t u m p (clockSet c) node-setClock clockIn (λ j q. c) (clock-clockSet c n (length-nodeOf t m p l (fit .0) (fit .1)) (fit .2)))
+      (node-kept t u m p (clockSet c) node-setClock heardIn (heard-clockSet c n))
+      store-setClock
       (chan-kept t u (channel-atNode t m p (clockSet c) l (fit .0) (fit .1) (clockSet-keeps c)))
       (sessions-site t m (onNode p (clockSet c)) l (fit .0) keeps-setClock)
 
@@ -212,18 +221,26 @@ module _ (m p : ℕ) (x : Msg) (t : List ℕ) (l : Long t) (fit : FitsPublish m 
       let all = sentBy-yes (load 1 t 0) m p i j q b in
       T-not (isWay i j) (yes-way i j (omega (arith, fit .sites)) (λ e. all .3 (omega arith))) w)
 
+  node-publish : (j q : ℕ) → nodeOf (siteOf (putCore (Publish m p x) t) j) q ≡ cond (at m p j q) (published m x (nodeOf (siteOf t j) q)) (nodeOf (siteOf t j) q)
+  unfolding putCore
+  node-publish = node-atPublish t (load 1 t 0 - 1) m p x l there (fit .partition) few
+
+  pub store-publish : (j q : ℕ) → storeIn (nodeOf (siteOf (putCore (Publish m p x) t) j) q) ≡ cond (at m p j q) (storeIn (nodeOf (siteOf t j) q) ++ recordsIn x) (storeIn (nodeOf (siteOf t j) q))
+  store-publish =
+      node-changed t (putCore (Publish m p x) t) m p (published m x) node-publish storeIn (λ j q. storeIn (nodeOf (siteOf t j) q) ++ recordsIn x)
+      (store-published m x (nodeOf (siteOf t m) p) (length-nodeOf t m p l there (fit .partition)) there (fit .msg) (fit .room))
+
   decode-publish : decode (putCore (Publish m p x) t) ≡ apply (Publish m p x) (decode t)
   unfolding decode apply publish shelve putCore
   decode-publish =
       let u = putCore (Publish m p x) t in
       let n = nodeOf (siteOf t m) p in
       let long = length-nodeOf t m p l there (fit .partition) in
-      let step = node-atPublish t (load 1 t 0 - 1) m p x l there (fit .partition) few in
       state-ext (decode u) (apply (Publish m p x) (decode t))
       setting-publish
-      (node-kept t u m p (published m x) step clockIn (clock-published m x n long there))
-      (node-changed t u m p (published m x) step heardIn (λ j q. withEntry (heardIn (nodeOf (siteOf t j) q)) m (stampIn x)) (heard-published m x n long there (fit .msg)))
-      (node-changed t u m p (published m x) step storeIn (λ j q. storeIn (nodeOf (siteOf t j) q) ++ recordsIn x) (store-published m x n long there (fit .msg) (fit .room)))
+      (node-kept t u m p (published m x) node-publish clockIn (clock-published m x n long there))
+      (node-changed t u m p (published m x) node-publish heardIn (λ j q. withEntry (heardIn (nodeOf (siteOf t j) q)) m (stampIn x)) (heard-published m x n long there (fit .msg)))
+      store-publish
       (chan-changed t u (pushed m x) (λ c. c ++ (x ∷ [])) (sent (load 1 t 0) m p) (sentBy (load 1 t 0) m p)
       (channel-atPublish t (load 1 t 0 - 1) m p x l there (fit .partition) few) sends (λ i j q w. sent-sentBy (load 1 t 0) m p i j q (fit .site) (way-yes i j w .1)) sends-none)
       (sessions-site t m (publishedOn (load 1 t 0 - 1) m p x) l there keeps-publish)
@@ -284,6 +301,11 @@ module _ (i m p : ℕ) (x : Msg) (t : List ℕ) (l : Long t) (fit : FitsReceive 
       (length-channelOf t h q l (omega (arith, fit .source)) (omega (arith, fit .partition)) e (omega (arith, near)))
       (bytes-channelOf t (fit .bytes) h q e)
 
+  pub store-receive : (j q : ℕ) → storeIn (nodeOf (siteOf (putCore (Receive i m p x) t) j) q) ≡ cond (at m p j q) (storeIn (nodeOf (siteOf t j) q) ++ recordsIn x) (storeIn (nodeOf (siteOf t j) q))
+  store-receive =
+      node-changed t (putCore (Receive i m p x) t) m p (received i x) node-receive storeIn (λ j q. storeIn (nodeOf (siteOf t j) q) ++ recordsIn x)
+      (store-received i x (nodeOf (siteOf t m) p) (length-nodeOf t m p l (fit .site) (fit .partition)) (fit .source) (fit .msg) (fit .room))
+
   decode-receive : decode (putCore (Receive i m p x) t) ≡ apply (Receive i m p x) (decode t)
   unfolding decode apply receive shelve
   decode-receive =
@@ -295,7 +317,7 @@ module _ (i m p : ℕ) (x : Msg) (t : List ℕ) (l : Long t) (fit : FitsReceive 
       setting-receive
       (node-kept t u m p (received i x) node-receive clockIn (clock-received i x n long (fit .source)))
       (node-changed t u m p (received i x) node-receive heardIn (λ j q. atLeast (heardIn (nodeOf (siteOf t j) q)) i (stampIn x)) (heard-received i x n long (fit .source) bytes (fit .msg)))
-      (node-changed t u m p (received i x) node-receive storeIn (λ j q. storeIn (nodeOf (siteOf t j) q) ++ recordsIn x) (store-received i x n long (fit .source) (fit .msg) (fit .room)))
+      store-receive
       (chan-changed t u popped tail (taken i m p) (takenFrom i m p) channel-receive takes
       (λ h j q w. taken-takenFrom i m p h j q (fit .other) (way-yes h j w .1))
       (λ h j q w. sym (cond-both (takenFrom i m p h j q) [])))
@@ -315,7 +337,7 @@ setting-core (SetClock m p c) = setting-setClock m p c
 setting-core (Publish m p x) = setting-publish m p x
 setting-core (Receive i m p x) = setting-receive i m p x
 
-pub decode-core : (c : Change) (t : List ℕ) → Long t → Fits c t → decode (putCore c t) ≡ apply c (decode t)
+decode-core : (c : Change) (t : List ℕ) → Long t → Fits c t → decode (putCore c t) ≡ apply c (decode t)
 decode-core (SetSession s x) = decode-setSession s x
 decode-core (SetClock m p c) = decode-setClock m p c
 decode-core (Publish m p x) = decode-publish m p x

@@ -6,10 +6,11 @@ use native.Mathlib.Omega.{arith}
 use lib.Dec.{ltb, eqb}
 use borrow.Author.Needs.{needs}
 use Rattle.protocol.specs.Record.{Setting, newer}
+use Rattle.protocol.proofs.Order.{newer-by-source}
 use Rattle.protocol.proofs.Places.{later-yes, later-no}
 use Rattle.record.specs.RecordBytes.{recordAt}
 use Rattle.parts.specs.Node.{slotAt}
-use Rattle.search.proofs.Compared.{newer-by-source, is-later}
+use Rattle.search.proofs.Compared.{is-later}
 use Rattle.search.proofs.by_source.Statement.{statement}
 use Rattle.search.proofs.by_source.Tie as tie
 

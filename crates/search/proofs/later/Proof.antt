@@ -6,10 +6,11 @@ use native.Mathlib.Omega.{arith}
 use lib.Dec.{ltb, eqb}
 use borrow.Author.Needs.{needs}
 use Rattle.protocol.specs.Record.{Setting, newer}
+use Rattle.protocol.proofs.Order.{newer-by-stamp}
 use Rattle.protocol.proofs.Places.{later-yes, later-no}
 use Rattle.record.specs.RecordBytes.{recordAt}
 use Rattle.parts.specs.Node.{slotAt}
-use Rattle.search.proofs.Compared.{newer-by-stamp, is-later}
+use Rattle.search.proofs.Compared.{is-later}
 use Rattle.search.proofs.later.Statement.{statement}
 use Rattle.search.proofs.later.Tie as tie
 
