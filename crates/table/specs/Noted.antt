@@ -1,5 +1,5 @@
 -- What the code does to the kept places when a message came: the record that was stored last is compared with the kept one of its key, and that one byte is
--- set. That this is `keptAnew` is proved in proofs/KeptPlacesPlaces.
+-- set. That this is `keptAnew` is proved in proofs/Follows (`publish-noted`, `receive-noted`).
 use Prim.Native.Nat.{ℕ, _-_, _≤_, _<_}
 use mathlib.Core.List.{List}
 use Rattle.codec.specs.Le.{load, put}

@@ -124,11 +124,8 @@ pub fn agree(scene: &Scene) {
     run(&mut both.core, &scene.events, &mut answers);
     run_structs(&mut both, &scene.events, &mut of_structs);
     assert!(answers == of_structs, "the answers differ");
-    match table::read(both.core.as_bytes()) {
-        Some(said) => assert_eq!(table::difference(&said, &both.archive), None),
-        // A core that keeps no newest records leaves such a table.
-        None => println!("  REFUSED by plain's check: plain's rows with a check say nothing"),
-    }
+    let said = table::read(both.core.as_bytes()).expect("a well-formed table");
+    assert_eq!(table::difference(&said, &both.archive), None);
 }
 
 /// Each event by itself; the sum of what is told keeps all of them.
