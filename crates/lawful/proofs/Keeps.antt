@@ -15,6 +15,7 @@ use Rattle.protocol.specs.State.{Session}
 use Rattle.protocol.specs.Event.{Event}
 use Rattle.protocol.specs.Change.{Change, SetSession, SetClock, Publish, Receive, at}
 use Rattle.protocol.specs.Step.{step}
+use Rattle.protocol.proofs.Nodes.{at-elim}
 use Rattle.parts.specs.Node.{clockSet, published, received}
 use Rattle.parts.specs.Channel.{pushed, popped}
 use Rattle.parts.specs.Session.{putSession}
@@ -24,7 +25,7 @@ use Rattle.table.specs.Decode.{settingIn, decode}
 use Rattle.table.specs.Put.{publishedOn, putCore, keptAnew, putChange, putChanges}
 use Rattle.table.specs.Fits.{FitsPublish, FitsReceive, Fits}
 use Rattle.table.proofs.Parts.{long-still, whole-long, whole-still, length-session, session-onSession, site-onSession, length-onSite, session-onSite, load-onSite, length-nodeOf, length-channelOf, bytes-channelOf}
-use Rattle.table.proofs.Changes.{at-yes, place-lt, onNode-keeps, node-atNode, channel-atNode, onChannel-keeps, node-atChannel, channel-atChannel, publishedOn-keeps, node-atPublish, channel-atPublish}
+use Rattle.table.proofs.Changes.{place-lt, onNode-keeps, node-atNode, channel-atNode, onChannel-keeps, node-atChannel, channel-atChannel, publishedOn-keeps, node-atPublish, channel-atPublish}
 use Rattle.table.proofs.Bytes.{bytes-putChange}
 use Rattle.table.proofs.KeptPlaces.{setting-anew, site-anew, session-anew, after-elim}
 use Rattle.table.proofs.Decode.{length-putCore, setting-core, length-putChange, decode-put}
@@ -52,9 +53,6 @@ formed-again t u same F session node channel = record {
   node = λ m p h g. subst (λ c. NodeFacts c m p (nodeOf (siteOf u m) p)) (sym same) (node m p h g);
   channel = λ m p d h g k. subst (λ c. ChannelFacts c m p d (channelOf (siteOf u m) p d)) (sym same) (channel m p d h g k);
 }
-
-at-elim : (P : ℕ → ℕ → Type 0) (m p j q : ℕ) → P m p → T (at m p j q) → P j q
-at-elim P m p j q h b = let same = at-yes m p j q b in rw (same .0, same .1) h
 
 -- ---- a change of site m, of one node, of one channel
 

@@ -9,8 +9,8 @@ use lib.ListN.{length}
 use mir.Facts.{yes-ltb}
 use borrow.Author.Count.{below-more}
 use borrow.Author.Tests.{lt-ltb}
-use Rattle.codec.specs.Le.{load, put, span, Apart}
-use Rattle.codec.proofs.Le.{length-put, load-put, load-put-other}
+use Rattle.codec.specs.Le.{load, put}
+use Rattle.codec.proofs.Le.{length-put, load-put-other}
 use Rattle.vector.specs.Vec.{withEntry}
 use Rattle.vector.proofs.Entries.{loadVec-below, loadVec-beyond}
 use Rattle.protocol.specs.Record.{Setting, Rec, Msg, Update, Heartbeat, stampIn}
@@ -19,13 +19,11 @@ use Rattle.protocol.proofs.Times.{time-fits, stamp-fits}
 use Rattle.record.specs.RecordBytes.{putRecord}
 use Rattle.record.specs.Ranges.{timeLawful, vecLawful}
 use Rattle.record.specs.RecordFormed.{recordFormed}
-use Rattle.record.proofs.Lengths.{length-putRecord}
-use Rattle.record.proofs.RecordBytes.{loadVec-ext, load-putRecord-other}
 use Rattle.record.proofs.Ranges.{LawfulVec, vec-facts, vec-lawful, with-entry-lawful, LawfulRec, LawfulMsg, stamp-lawful}
 use Rattle.record.proofs.RecordFormed.{record-formed-ext, record-formed-put}
 use Rattle.parts.specs.Node.{slotAt, clockIn, heardIn, heldIn, clockSet, stored, published, received}
 use Rattle.parts.specs.Room.{Room}
-use Rattle.parts.proofs.NodeBytes.{clock-clockSet, heard-clockSet, clock-published, heard-published}
+use Rattle.parts.proofs.NodeBytes.{clock-clockSet, heard-clockSet, load-update, held-update, clock-stored, heard-stored, clock-published, heard-published}
 use Rattle.lawful.proofs.Facts.{NodeFacts}
 
 module _ (c : Setting) (m p : ℕ) where
@@ -71,27 +69,11 @@ module _ (c : Setting) (m p : ℕ) where
     abbrev u : List ℕ
     u = putRecord n (slotAt (heldIn n)) 1 r
 
-    load-update : (w j : ℕ) → Apart j w 40 1 → Apart j w (slotAt (heldIn n)) 48 → load w (stored (Update r) n) j ≡ load w n j
-    unfolding stored
-    load-update w j o o′ = load-put-other w 1 u 40 (heldIn n + 1) j o ∙ load-putRecord-other n (slotAt (heldIn n)) 1 r w j o′
-
-    held-update : heldIn (stored (Update r) n) ≡ heldIn n + 1
-    unfolding stored heldIn span
-    held-update = load-put 1 u 40 (heldIn n + 1) (omega (arith, length-putRecord n (slotAt (heldIn n)) 1 r)) (omega arith)
-
-    clock-update : clockIn (stored (Update r) n) ≡ clockIn n
-    unfolding clockIn
-    clock-update = load-update 8 0 (λ k a b d e. omega arith) (λ k a b d e. omega arith)
-
-    heard-update : heardIn (stored (Update r) n) ≡ heardIn n
-    unfolding heardIn
-    heard-update = loadVec-ext (stored (Update r) n) n 8 (λ i g. load-update 8 (8 + 8 * i) (λ k a b d e. omega arith) (λ k a b d e. omega arith))
-
     slots-update : c .sites ≤ 4 → LawfulRec c p r → NodeFacts c m p n → (k : ℕ) → k < heldIn n + 1 → T (recordFormed c p (stored (Update r) n) (slotAt k))
     slots-update few ok F =
         below-more (λ k. T (recordFormed c p (stored (Update r) n) (slotAt k))) (heldIn n)
         (λ k g.
-        rw (record-formed-ext c p (stored (Update r) n) n (slotAt k) (λ w j a b. load-update w j (λ i d e f h. omega arith) (λ i d e f h. omega arith)))
+        rw (record-formed-ext c p (stored (Update r) n) n (slotAt k) (λ w j a b. load-update r n l room w j (λ i d e f h. omega arith) (λ i d e f h. omega arith)))
         (F .slots k g))
         (rw (record-formed-ext c p (stored (Update r) n) u (slotAt (heldIn n)) (λ w j a b. unfold stored in load-put-other w 1 u 40 (heldIn n + 1) j (λ i d e f h. omega arith)))
         (record-formed-put c few p n (slotAt (heldIn n)) (omega arith) r ok))
@@ -99,8 +81,8 @@ module _ (c : Setting) (m p : ℕ) where
   module _ (few : c .sites ≤ 4) (site : m < c .sites) (part : p < c .partitions) where
     stored-kept : (i : ℕ) (x : Msg) (n : List ℕ) → length n ≡ 1856 → LawfulMsg c i p x → Room x n → NodeFacts c m p n → NodeFacts c m p (stored x n)
     stored-kept i (Update r) n l ok room F = record {
-      clock = rw (clock-update r n l room) (F .clock);
-      heard = rw (heard-update r n l room) (F .heard);
+      clock = rw (clock-stored (Update r) n) (F .clock);
+      heard = rw (heard-stored (Update r) n) (F .heard);
       held = rw (lt-ltb m (c .sites) site, lt-ltb p (c .partitions) part) (omega (arith, held-update r n l room));
       slots = λ k b. slots-update r n l room few (ok .1) F k (omega (arith, held-update r n l room));
     }

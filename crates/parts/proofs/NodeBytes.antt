@@ -9,7 +9,7 @@ use mathlib.Core.List.{List, _++_, append-nil}
 use lib.Dec.{ltb, eqb}
 use lib.ListN.{length}
 use borrow.Author.Tests.{lt-ltb, eq-eqb, ne-eqb}
-use Rattle.codec.specs.Le.{load, put, span, Bytes}
+use Rattle.codec.specs.Le.{load, put, span, Apart, Bytes}
 use Rattle.codec.proofs.Le.{length-put, load-put, load-put-other, load-lt}
 use Rattle.codec.proofs.Tabulate.{tab-ext, tab-more}
 use Rattle.vector.specs.Vec.{withEntry, atLeast}
@@ -64,41 +64,41 @@ load-stored-other (Update r) n w j h =
     ∙ load-putRecord-other n (slotAt (heldIn n)) 1 r w j (λ k a b c d. omega arith)
 load-stored-other (Heartbeat t) n w j h = refl
 
-clock-stored : (x : Msg) (n : List ℕ) → clockIn (stored x n) ≡ clockIn n
+pub clock-stored : (x : Msg) (n : List ℕ) → clockIn (stored x n) ≡ clockIn n
 unfolding clockIn
 clock-stored x n = load-stored-other x n 8 0 (omega arith)
 
-heard-stored : (x : Msg) (n : List ℕ) → heardIn (stored x n) ≡ heardIn n
+pub heard-stored : (x : Msg) (n : List ℕ) → heardIn (stored x n) ≡ heardIn n
 unfolding heardIn
 heard-stored x n = loadVec-ext (stored x n) n 8 (λ i b. load-stored-other x n 8 (8 + 8 * i) (omega arith))
 
-module _ (r : Rec) (n : List ℕ) (l : length n ≡ 1856) (small : FitsRec r) (room : heldIn n < 32) where
-  held-update : heldIn (stored (Update r) n) ≡ heldIn n + 1
+module _ (r : Rec) (n : List ℕ) (l : length n ≡ 1856) (room : heldIn n < 32) where
+  abbrev u : List ℕ
+  u = putRecord n (slotAt (heldIn n)) 1 r
+
+  pub load-update : (w j : ℕ) → Apart j w 40 1 → Apart j w (slotAt (heldIn n)) 48 → load w (stored (Update r) n) j ≡ load w n j
+  unfolding stored
+  load-update w j o o′ = load-put-other w 1 u 40 (heldIn n + 1) j o ∙ load-putRecord-other n (slotAt (heldIn n)) 1 r w j o′
+
+  pub held-update : heldIn (stored (Update r) n) ≡ heldIn n + 1
   unfolding stored heldIn span
-  held-update =
-      load-put 1 (putRecord n (slotAt (heldIn n)) 1 r) 40 (heldIn n + 1) (omega (arith, length-putRecord n (slotAt (heldIn n)) 1 r)) (omega arith)
+  held-update = load-put 1 u 40 (heldIn n + 1) (omega (arith, length-putRecord n (slotAt (heldIn n)) 1 r)) (omega arith)
 
   -- the earlier records
   old-update : (k : ℕ) → k < heldIn n → recordAt (stored (Update r) n) (slotAt k) ≡ recordAt n (slotAt k)
-  unfolding stored
-  old-update k h =
-      record-ext (stored (Update r) n) n (slotAt k)
-      (λ w j p q.
-      load-put-other w 1 (putRecord n (slotAt (heldIn n)) 1 r) 40 (heldIn n + 1) j (λ i a b c d. omega arith)
-      ∙ load-putRecord-other n (slotAt (heldIn n)) 1 r w j (λ i a b c d. omega arith))
+  old-update k h = record-ext (stored (Update r) n) n (slotAt k) (λ w j p q. load-update w j (λ i a b c d. omega arith) (λ i a b c d. omega arith))
 
-  new-update : recordAt (stored (Update r) n) (slotAt (heldIn n)) ≡ r
+  new-update : FitsRec r → recordAt (stored (Update r) n) (slotAt (heldIn n)) ≡ r
   unfolding stored
-  new-update =
-      record-ext (stored (Update r) n) (putRecord n (slotAt (heldIn n)) 1 r) (slotAt (heldIn n))
-      (λ w j p q. load-put-other w 1 (putRecord n (slotAt (heldIn n)) 1 r) 40 (heldIn n + 1) j (λ i a b c d. omega arith))
+  new-update small =
+      record-ext (stored (Update r) n) u (slotAt (heldIn n)) (λ w j p q. load-put-other w 1 u 40 (heldIn n + 1) j (λ i a b c d. omega arith))
       ∙ record-putRecord n (slotAt (heldIn n)) 1 r (omega arith) small (omega arith)
 
 store-stored : (x : Msg) (n : List ℕ) → length n ≡ 1856 → FitsMsg x → Room x n → storeIn (stored x n) ≡ storeIn n ++ recordsIn x
 unfolding storeIn recordsIn
 store-stored (Update r) n l small room =
-    rw (held-update r n l small room)
-    (tab-more (heldIn n) (λ k. recordAt n (slotAt k)) (λ k. recordAt (stored (Update r) n) (slotAt k)) r (old-update r n l small room) (new-update r n l small room))
+    rw (held-update r n l room)
+    (tab-more (heldIn n) (λ k. recordAt n (slotAt k)) (λ k. recordAt (stored (Update r) n) (slotAt k)) r (old-update r n l room) (new-update r n l room small))
 store-stored (Heartbeat t) n l small room = unfold stored in sym (append-nil (storeIn n))
 
 -- ---- the changes

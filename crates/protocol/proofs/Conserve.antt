@@ -21,7 +21,7 @@ use Rattle.protocol.specs.Count.{waiting, writtenAt, takenAt, delivered}
 use Rattle.protocol.specs.Promises.{Conserved}
 use Rattle.protocol.proofs.Judge.{step-elim}
 use Rattle.protocol.proofs.Setting.{next-setting}
-use Rattle.protocol.proofs.Network.{at-yes}
+use Rattle.protocol.proofs.Nodes.{at-yes}
 
 -- ---- what waits in a channel
 

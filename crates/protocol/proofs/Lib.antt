@@ -4,6 +4,7 @@ pub mod Order
 pub mod Search
 pub mod Shelf
 pub mod Places
+pub mod Nodes
 pub mod Judge
 pub mod Reach
 pub mod Ladders

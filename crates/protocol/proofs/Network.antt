@@ -13,18 +13,9 @@ use Rattle.protocol.specs.Record.{partitionOf, Rec, Msg, Update, Heartbe
 use Rattle.protocol.specs.State.{Net}
 use Rattle.protocol.specs.Change.{at, setClock, publish, receive}
 use Rattle.protocol.specs.Past.{_∈_}
+use Rattle.protocol.proofs.Nodes.{at-yes, yes-at}
 use Rattle.protocol.proofs.Shelf.{in-shelve, shelve-old, shelve-new}
 use Rattle.protocol.proofs.Invariant.{Ascending, ascending-up, ascending-snoc, ascending-still, home, Bound, NetInv, Later}
-
--- ---- places
-
-pub at-yes : (m p j q : ℕ) → T (at m p j q) → (j ≡ m) × (q ≡ p)
-unfolding at
-at-yes m p j q t = let k = and-yes (eqb j m) (eqb q p) t in (eqb-yes (k .0), eqb-yes (k .1))
-
-yes-at : (m p j q : ℕ) → j ≡ m → q ≡ p → T (at m p j q)
-unfolding at
-yes-at m p j q e f = yes-and (eqb j m) (eqb q p) (yes-eqb j m e) (yes-eqb q p f)
 
 -- entry i of a vector that is changed there, at one node
 entry-of : (a b : Bool) (f g : Vec) (i s : ℕ) → f i ≡ cond b s (g i) → cond a f g i ≡ cond (a && b) s (g i)

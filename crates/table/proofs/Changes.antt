@@ -8,12 +8,13 @@ use mathlib.Core.Bool.{Bool, cond, not, _&&_, _||_}
 use mathlib.Core.List.{List}
 use lib.Dec.{T, ltb, eqb, lt→ltb}
 use lib.ListN.{length}
-use mir.Facts.{T-not, and-yes, yes-and, ltb-yes, eqb-yes, eqb-no, yes-eqb, no-eqb}
+use mir.Facts.{and-yes, yes-and, ltb-yes, eqb-yes, eqb-no, yes-eqb, no-eqb}
 use borrow.Author.Tests.{lt-ltb, le-ltb, eq-eqb, ne-eqb}
 use Rattle.codec.specs.Part.{Keeps}
-use Rattle.codec.proofs.Tests.{cond-elim, cond-and, cond-and₃, cond-both, cond-more, cond-no, same-test}
+use Rattle.codec.proofs.Tests.{cond-and, cond-and₃, cond-both, cond-more, cond-no, same-test}
 use Rattle.protocol.specs.Record.{Msg}
 use Rattle.protocol.specs.Change.{at}
+use Rattle.protocol.proofs.Nodes.{at-yes, yes-at}
 use Rattle.parts.specs.Node.{published}
 use Rattle.parts.specs.Channel.{pushed}
 use Rattle.parts.proofs.Lengths.{length-published, length-pushed}
@@ -69,21 +70,6 @@ place-inj i j m d g e = go (decLt j i) (decLt m i)
         let c′ : i ≤ m = omega arith in omega (arith, place-high i j b′, place-high i m c′)
 
 -- ---- which channels a change is done to: by places, and by sites
-
-pub at-yes : (m p j q : ℕ) → T (at m p j q) → (j ≡ m) × (q ≡ p)
-unfolding at
-at-yes m p j q b = let both = and-yes (eqb j m) (eqb q p) b in (eqb-yes (both .0), eqb-yes (both .1))
-
-yes-at : (m p j q : ℕ) → j ≡ m → q ≡ p → T (at m p j q)
-unfolding at
-yes-at m p j q g h = yes-and (eqb j m) (eqb q p) (yes-eqb g) (yes-eqb h)
-
-module _ {ℓ} {A : Type ℓ} (m p : ℕ) where
-  pub at-own : (x y : A) → cond (at m p m p) x y ≡ x
-  at-own x y = cond-elim (λ z. z ≡ x) (at m p m p) (λ b. refl) (λ b. absurd (T-not (at m p m p) (yes-at m p m p refl refl) b))
-
-  pub at-others : (j q : ℕ) (x y : A) → T (not (at m p j q)) → cond (at m p j q) x y ≡ y
-  at-others j q x y n = sym (cond-no (at m p j q) x y (λ b. T-not (at m p j q) b n))
 
 -- the message of node (m, p) goes into channel (i, q, e), and to site j from site i, where there are n sites
 abbrev pub sent : (n m p i q e : ℕ) → Bool

@@ -16,6 +16,7 @@ use Rattle.protocol.specs.Record.{Msg, stampIn, recordsIn}
 use Rattle.protocol.specs.Shelf.{shelve}
 use Rattle.protocol.specs.State.{Session}
 use Rattle.protocol.specs.Change.{Change, SetSession, SetClock, Publish, Receive, upd, at, setClock, publish, receive, apply, applyAll}
+use Rattle.protocol.proofs.Nodes.{at-yes, at-elim}
 use Rattle.parts.specs.Node.{clockIn, heardIn, storeIn, clockSet, published, received}
 use Rattle.parts.specs.Channel.{queueIn, pushed, popped}
 use Rattle.parts.specs.Session.{sessionIn, putSession}
@@ -28,7 +29,7 @@ use Rattle.table.specs.Decode.{settingIn, decode}
 use Rattle.table.specs.Put.{publishedOn, putCore, putChange, putChanges}
 use Rattle.table.specs.Fits.{FitsPublish, FitsReceive, Fits, FitsAll}
 use Rattle.table.proofs.Parts.{long-still, length-session, length-onSession, session-onSession, site-onSession, load-onSession, length-onSite, session-onSite, load-onSite, bytes-nodeOf, bytes-channelOf, length-nodeOf, length-channelOf}
-use Rattle.table.proofs.Changes.{at-yes, sent, sentBy, sentBy-yes, sent-sentBy, taken, takenFrom, taken-takenFrom, place-lt, onNode-keeps, node-atNode, channel-atNode, onChannel-keeps, node-atChannel, channel-atChannel, publishedOn-keeps, node-atPublish, channel-atPublish}
+use Rattle.table.proofs.Changes.{sent, sentBy, sentBy-yes, sent-sentBy, taken, takenFrom, taken-takenFrom, place-lt, onNode-keeps, node-atNode, channel-atNode, onChannel-keeps, node-atChannel, channel-atChannel, publishedOn-keeps, node-atPublish, channel-atPublish}
 use Rattle.table.proofs.KeptPlaces.{state-ext, length-anew, setting-anew, decode-anew, after-elim}
 
 -- ---- a change keeps a thing's length
@@ -46,9 +47,6 @@ popped-keeps : Keeps 464 popped
 popped-keeps s e = length-popped s ∙ e
 
 -- ---- choices, and what is read of a node or a channel that changed
-
-at-elim {ℓ} : (P : ℕ → ℕ → Type ℓ) (m p j q : ℕ) → P m p → T (at m p j q) → P j q
-at-elim P m p j q h b = let same = at-yes m p j q b in rw (same .0, same .1) h
 
 cond-read {ℓ κ} : {A : Type ℓ} {B : Type κ} (X : A → B) (b : Bool) (x y : A) (u : B) → (T b → X x ≡ u) → X (cond b x y) ≡ cond b u (X y)
 cond-read X true x y u e = e tt

@@ -13,6 +13,7 @@ use Rattle.codec.proofs.Le.{load-byte}
 use Rattle.codec.proofs.Tests.{cond-elim}
 use Rattle.protocol.specs.Record.{Setting, Msg, Update, Heartbeat, recordsIn}
 use Rattle.protocol.specs.Change.{Change, SetSession, SetClock, Publish, Receive, at}
+use Rattle.protocol.proofs.Nodes.{at-yes, at-own, at-others}
 use Rattle.parts.specs.Node.{storeIn, clockSet, received}
 use Rattle.parts.specs.Channel.{popped}
 use Rattle.parts.specs.Session.{putSession}
@@ -26,7 +27,7 @@ use Rattle.table.specs.Put.{publishedOn, putCore, keptAnew, keptAfter, p
 use Rattle.table.specs.Fits.{Keyed, KeptAt, FitsPublish, FitsReceive, Fits}
 use Rattle.table.specs.Noted.{placeNoted, noted, messageNoted, Notable}
 use Rattle.table.proofs.Parts.{long-still, length-onSite}
-use Rattle.table.proofs.Changes.{at-yes, at-own, at-others, place-lt, onNode-keeps, onChannel-keeps, publishedOn-keeps}
+use Rattle.table.proofs.Changes.{place-lt, onNode-keeps, onChannel-keeps, publishedOn-keeps}
 use Rattle.table.proofs.KeptPlaces.{kept-is, kept-onSession, kept-onSite, setting-anew, site-anew, kept-anew}
 use Rattle.table.proofs.Decode.{store-setSession, store-setClock, store-publish, store-receive, length-putCore, setting-core}
 
