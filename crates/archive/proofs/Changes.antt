@@ -9,7 +9,6 @@ use mathlib.Core.List.{List, [], _∷_, _++_}
 use lib.ListN.{length}
 use Rattle.codec.specs.Le.{load, put}
 use Rattle.codec.specs.Part.{Keeps}
-use Rattle.codec.proofs.Le.{load-put-other}
 use Rattle.vector.proofs.Entries.{loadVec-below}
 use Rattle.protocol.specs.Record.{Msg, Update, Heartbeat, stampIn, recordsIn}
 use Rattle.protocol.specs.State.{Session}
@@ -18,7 +17,8 @@ use Rattle.protocol.specs.Change.{Change, SetSession, SetClock, Publish, Receiv
 use Rattle.parts.specs.Node.{heardIn, heldIn, storeIn, slotAt, clockSet, stored, published, received}
 use Rattle.parts.specs.Channel.{ringAt, frontIn, waitIn, pushed, popped}
 use Rattle.parts.specs.Session.{putSession}
-use Rattle.parts.proofs.Lengths.{length-putSession, length-clockSet, length-published, length-received, length-pushed, length-popped}
+use Rattle.parts.proofs.Lengths.{clockSet-keeps, published-keeps, received-keeps, pushed-keeps, popped-keeps, putSession-keeps}
+use Rattle.parts.proofs.NodeBytes.{held-before}
 use Rattle.search.specs.Kept.{placesIn}
 use Rattle.search.proofs.Kept.{length-places, places-same}
 use Rattle.table.specs.Parts.{Long, Whole, keptAt, placeOf, sessionOf, siteOf, nodeOf, channelOf, onSession, onSite, onNode, onChannel, onKept}
@@ -37,10 +37,6 @@ use Rattle.archive.proofs.Writes.{Twin, Both, twin-none, twin-then, twi
 
 -- ---- a node
 
-held-heard : (n : List ℕ) (i x : ℕ) → i < 4 → heldIn (put 8 n (8 + 8 * i) x) ≡ heldIn n
-unfolding heldIn
-held-heard n i x h = load-put-other 1 8 n (8 + 8 * i) x 40 (λ k a b c d. omega arith)
-
 twin-stored : (x : Msg) {s s′ r r′ : List ℕ} → Twin s s′ r r′ → heldIn s′ ≡ heldIn r′ → Twin s (stored x s′) r (stored x r′)
 unfolding stored
 twin-stored (Update q) {s} {s′} {r} {r′} a e = rw e (twin-put 1 40 (heldIn r′ + 1) (twin-putRecord (slotAt (heldIn r′)) 1 q a))
@@ -49,7 +45,7 @@ twin-stored (Heartbeat t) a e = a
 module _ (n k : List ℕ) (i : ℕ) (h : i < 4) (x : Msg) (l : length n ≡ length k) (e : heldIn n ≡ heldIn k) where
   -- entry i set to v, and the message stored
   twin-entered : (v : ℕ) → Twin n (stored x (put 8 n (8 + 8 * i) v)) k (stored x (put 8 k (8 + 8 * i) v))
-  twin-entered v = twin-stored x (twin-put 8 (8 + 8 * i) v (twin-none n k l)) (held-heard n i v h ∙ e ∙ sym (held-heard k i v h))
+  twin-entered v = twin-stored x (twin-put 8 (8 + 8 * i) v (twin-none n k l)) (held-before n 8 (8 + 8 * i) v (omega arith) ∙ e ∙ sym (held-before k 8 (8 + 8 * i) v (omega arith)))
 
   twin-published : Twin n (published i x n) k (published i x k)
   unfolding published
@@ -75,18 +71,12 @@ twin-popped c b l e g =
     let f : (frontIn c + 1) % 8 ≡ (frontIn b + 1) % 8 = omega arith in
     rw (f, e) (twin-put 1 1 (waitIn b - 1) (twin-put 1 0 ((frontIn b + 1) % 8) (twin-none c b l)))
 
-popped-keeps : Keeps 464 popped
-popped-keeps c e = length-popped c ∙ e
-
 -- ---- a site that sends: into the first n channels of partition p
 
 abbrev Ways : (n p : ℕ) (s r : List ℕ) → Type 0
 Ways n p s r = (d : ℕ) → d < n → Next (channelOf s p d) (channelOf r p d)
 
 module _ (m p : ℕ) (x : Msg) (h : p < 4) (s r : List ℕ) (l : length s ≡ 13056) (l′ : length r ≡ 13056) where
-  pushed-keeps : Keeps 464 (pushed m x)
-  pushed-keeps c e = length-pushed m x c ∙ e
-
   twin-way : (d : ℕ) → d < 3 → Next (channelOf s p d) (channelOf r p d) → Both (pushed m x) (channelOf s p d) (channelOf r p d)
   twin-way d b e = twin-pushed m x (channelOf s p d) (channelOf r p d) (length-channel s p d l h b ∙ sym (length-channel r p d l′ h b)) e .writes
 
@@ -99,27 +89,24 @@ module _ (m p : ℕ) (x : Msg) (h : p < 4) (s r : List ℕ) (l : length s ≡ 13
       let here : n < 3 = omega arith in
       let there : n ≤ n = omega arith in
       twin-then (twin-sentTo n few (λ d g. w d (omega arith)))
-      (twin-onChannel (pushed m x) (sentTo n m p x s) (sentTo n m p x r) p (length-sent m p x s l h n few) (length-sent m p x r l′ h n few) h n here pushed-keeps
+      (twin-onChannel (pushed m x) (sentTo n m p x s) (sentTo n m p x r) p (length-sent m p x s l h n few) (length-sent m p x r l′ h n few) h n here (pushed-keeps m x)
       (rw (channel-sent m p x s l h n n there here, channel-sent m p x r l′ h n n there here) (twin-way n here (w n (omega arith)))))
 
 module _ (m p : ℕ) (x : Msg) (h : p < 4) (s r : List ℕ) (l : length s ≡ 13056) (l′ : length r ≡ 13056) where
   abbrev own : List ℕ → List ℕ
   own = onNode p (published m x)
 
-  published-keeps : Keeps 1856 (published m x)
-  published-keeps c e = length-published m x c ∙ e
-
   length-own : (v : List ℕ) → length v ≡ 13056 → length (own v) ≡ 13056
-  length-own v k = length-onNode v p (published m x) k h published-keeps ∙ k
+  length-own v k = length-onNode v p (published m x) k h (published-keeps m x) ∙ k
 
   twin-own : m < 4 → heldIn (nodeOf s p) ≡ heldIn (nodeOf r p) → Twin s (own s) r (own r)
   twin-own g e =
-      twin-onNode (published m x) s r p l l′ h published-keeps
+      twin-onNode (published m x) s r p l l′ h (published-keeps m x)
       (twin-published (nodeOf s p) (nodeOf r p) m g x (length-node s p l h ∙ sym (length-node r p l′ h)) e .writes)
 
   ways-own : (n : ℕ) → Ways n p s r → Ways n p (own s) (own r)
   ways-own n w d b =
-      rw (channel-onNode s p (published m x) l h published-keeps p d, channel-onNode r p (published m x) l′ h published-keeps p d) (w d b)
+      rw (channel-onNode s p (published m x) l h (published-keeps m x) p d, channel-onNode r p (published m x) l′ h (published-keeps m x) p d) (w d b)
 
   twin-publishedOn : (n : ℕ) → n ≤ 3 → m < 4 → heldIn (nodeOf s p) ≡ heldIn (nodeOf r p) → Ways n p s r → Twin s (publishedOn n m p x s) r (publishedOn n m p x r)
   unfolding publishedOn
@@ -181,7 +168,7 @@ module _ (t u : List ℕ) (l : Long t) (l′ : length u ≡ length t) where
 
   twin-atSession : (s : ℕ) (x : Session) → s < 16 → Twin t (onSession s (putSession x) t) u (onSession s (putSession x) u)
   twin-atSession s x h =
-      twin-onSession (putSession x) t u l l′ s h (λ b e. length-putSession x b ∙ e)
+      twin-onSession (putSession x) t u l l′ s h (putSession-keeps x)
       (twin-putSession x (twin-none (sessionOf t s) (sessionOf u s) (length-session t s l h ∙ sym (length-session u s as-long h))) .writes)
 
   same-node : (m p : ℕ) → m < 4 → p < 4 → length (nodeOf (siteOf t m) p) ≡ length (nodeOf (siteOf u m) p)
@@ -207,7 +194,7 @@ module _ (t u : List ℕ) (l : Long t) (l′ : length u ≡ length t) where
   twin-clock : (m p c : ℕ) → m < 4 → p < 4 → Twin t (onSite m (onNode p (clockSet c)) t) u (onSite m (onNode p (clockSet c)) u)
   unfolding clockSet
   twin-clock m p c h g =
-      twin-atNode t u l l′ (clockSet c) m p h g (λ n e. length-clockSet c n ∙ e)
+      twin-atNode t u l l′ (clockSet c) m p h g (clockSet-keeps c)
       (twin-put 8 0 c (twin-none (nodeOf (siteOf t m) p) (nodeOf (siteOf u m) p) (same-node t u l l′ m p h g)) .writes)
 
   twin-publish : (m p : ℕ) (x : Msg) → FitsPublish m p x t → Seen (Publish m p x) t u → Twin t (putCore (Publish m p x) t) u (putCore (Publish m p x) u)
@@ -243,7 +230,7 @@ module _ (t u : List ℕ) (l : Long t) (l′ : length u ≡ length t) where
       f = onSite m (onNode p (received i x))
 
       keeps : Keeps 1856 (received i x)
-      keeps n e = length-received i x n ∙ e
+      keeps = received-keeps i x
 
       same : (v : List ℕ) → Long v → length (f v) ≡ length v
       same v k = length-onSite v m (onNode p (received i x)) k (fit .site) (onNode-keeps v m p (received i x) k (fit .site) (fit .partition) keeps)

@@ -11,7 +11,7 @@ use lib.Dec.{T, eqb}
 use lib.ListN.{length}
 use mir.Facts.{T-not, and-yes, yes-and}
 use Rattle.codec.specs.Tabulate.{tabulate}
-use Rattle.codec.proofs.Tests.{yes-eqb}
+use Rattle.codec.proofs.Tests.{yes-eqb, cond-yes, cond-not}
 use Rattle.codec.proofs.Tabulate.{tab-snoc}
 use Rattle.vector.specs.Vec.{width}
 use Rattle.protocol.specs.Record.{Setting}
@@ -37,7 +37,6 @@ use Rattle.lawful.proofs.Steps.{Sound, fresh-sound, fresh-says, step-sound, ste
 use Rattle.reader.specs.Pieces.{pieceOf}
 use Rattle.steps.specs.Step.{Called, refused, stepOn}
 use Rattle.steps.specs.Run.{pieceAnswered, runBy}
-use Rattle.steps.proofs.Stepped.{cond-yes, cond-not}
 use Rattle.archive.specs.Call.{stepCall, setupCall}
 use Rattle.archive.specs.Run.{piecesOf, runCall}
 use Rattle.archive.specs.Story.{isEvent, eventsOf, tableAfter, linesOf, deliveredOf}

@@ -74,6 +74,12 @@ pub passes : {r x : Bool} → r ≡ x → not r ≡ false → x ≡ true
 passes {r} e h = sym e ∙ not-false r h
 
 module _ {ℓ} {A : Type ℓ} where
+  pub cond-yes : (b : Bool) (x y : A) → T b → cond b x y ≡ x
+  cond-yes true x y t = refl
+
+  pub cond-not : (b : Bool) (x y : A) → T (not b) → cond b x y ≡ y
+  cond-not false x y t = refl
+
   pub cond-no : (b : Bool) (x y : A) → (T b → ⊥) → y ≡ cond b x y
   cond-no true x y n = absurd (n tt)
   cond-no false x y n = refl

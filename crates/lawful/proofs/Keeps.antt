@@ -2,7 +2,7 @@
 -- and every step (`step-formed`). That the kept places go on agreeing is table's law `change-kept`.
 use Prim.Native.Nat.{ℕ, _-_, _≤_, _<_}
 use native.Mathlib.Omega.{arith}
-use mathlib.Core.Path.{_≡_, sym, subst, _∙_}
+use mathlib.Core.Path.{_≡_, sym, subst}
 use mathlib.Core.Bool.{_&&_}
 use mathlib.Core.List.{List, [], _∷_}
 use lib.Dec.{T, ltb, eqb}
@@ -19,7 +19,7 @@ use Rattle.protocol.proofs.Nodes.{at-elim}
 use Rattle.parts.specs.Node.{clockSet, published, received}
 use Rattle.parts.specs.Channel.{pushed, popped}
 use Rattle.parts.specs.Session.{putSession}
-use Rattle.parts.proofs.Lengths.{length-clockSet, length-received, length-popped, length-putSession}
+use Rattle.parts.proofs.Lengths.{clockSet-keeps, received-keeps, popped-keeps, putSession-keeps}
 use Rattle.table.specs.Parts.{Long, Whole, placeOf, sessionOf, siteOf, nodeOf, channelOf, onSession, onSite, onNode, onChannel}
 use Rattle.table.specs.Decode.{settingIn, decode}
 use Rattle.table.specs.Put.{publishedOn, putCore, keptAnew, putChange, putChanges}
@@ -98,20 +98,17 @@ module _ (t : List ℕ) (w : Whole t) (K : Kept t) (bytes : Bytes t) (F : Formed
   fits c ok = lawful-fits c t w K (F .sites) (F .partitions) bytes ok
 
   module _ (s : ℕ) (x : Session) (ok : Lawful (SetSession s x) (decode t)) where
-    put-keeps : Keeps 128 (putSession x)
-    put-keeps b e = length-putSession x b ∙ e
-
     session-changed : (r : ℕ) → r < 16 → SessionFacts (settingIn t) (sessionOf (putCore (SetSession s x) t) r)
     unfolding putCore decode
     session-changed r h =
-        rw (session-onSession t s (putSession x) l (ok .0) put-keeps r)
+        rw (session-onSession t s (putSession x) l (ok .0) (putSession-keeps x) r)
         (cond-elim (SessionFacts (settingIn t)) (eqb r s)
         (λ e. session-kept (settingIn t) x (sessionOf t r) (length-session t r l h) (F .sites) (ok .1) (F .session r h)) (λ e. F .session r h))
 
     session-formed : Formed (putCore (SetSession s x) t)
     unfolding putCore
     session-formed =
-        let sites = site-onSession t s (putSession x) l (ok .0) put-keeps in
+        let sites = site-onSession t s (putSession x) l (ok .0) (putSession-keeps x) in
         formed-again t (onSession s (putSession x) t) (setting-core (SetSession s x) t l (fits (SetSession s x) ok)) F session-changed
         (λ m p h g. rw (sites m) (F .node m p h g)) (λ m p d h g k. rw (sites m) (F .channel m p d h g k))
 
@@ -119,7 +116,7 @@ module _ (t : List ℕ) (w : Whole t) (K : Kept t) (bytes : Bytes t) (F : Formed
   unfolding putCore decode
   clock-formed m p v ok =
       let fit = fits (SetClock m p v) ok in
-      onNode-formed t l F m p (clockSet v) (fit .0) (fit .1) (λ n e. length-clockSet v n ∙ e)
+      onNode-formed t l F m p (clockSet v) (fit .0) (fit .1) (clockSet-keeps v)
       (clock-kept (settingIn t) m p v (nodeOf (siteOf t m) p) (length-nodeOf t m p l (fit .0) (fit .1)) (ok .2) (F .node m p (fit .0) (fit .1)))
 
   module _ (m p : ℕ) (x : Msg) (ok : Lawful (Publish m p x) (decode t)) where
@@ -167,9 +164,6 @@ module _ (t : List ℕ) (w : Whole t) (K : Kept t) (bytes : Bytes t) (F : Formed
     fit-receive : FitsReceive i m p x t
     fit-receive = fits (Receive i m p x) ok
 
-    received-keeps : Keeps 1856 (received i x)
-    received-keeps n e = length-received i x n ∙ e
-
     -- the table when the node has the message and the channel has it still
     abbrev u : List ℕ
     u = onSite m (onNode p (received i x)) t
@@ -179,7 +173,7 @@ module _ (t : List ℕ) (w : Whole t) (K : Kept t) (bytes : Bytes t) (F : Formed
     node-received =
         let site = fit-receive .site in
         let part = fit-receive .partition in
-        onNode-formed t l F m p (received i x) site part received-keeps
+        onNode-formed t l F m p (received i x) site part (received-keeps i x)
         (received-kept (settingIn t) m p (F .sites) (ok .site) (ok .partition) i x (nodeOf (siteOf t m) p) (length-nodeOf t m p l site part) (ok .source) (ok .msg) (fit-receive .room) (F .node m p site part))
 
     receive-formed : Formed (putCore (Receive i m p x) t)
@@ -188,10 +182,10 @@ module _ (t : List ℕ) (w : Whole t) (K : Kept t) (bytes : Bytes t) (F : Formed
         let site = fit-receive .site in
         let part = fit-receive .partition in
         let near = place-lt 4 i m (fit-receive .source) site (fit-receive .other) in
-        let long = long-still t u (length-onSite t m (onNode p (received i x)) l site (onNode-keeps t m p (received i x) l site part received-keeps)) l in
-        onChannel-formed u long node-received i p (placeOf i m) popped (fit-receive .source) part near (λ b e. length-popped b ∙ e)
+        let long = long-still t u (length-onSite t m (onNode p (received i x)) l site (onNode-keeps t m p (received i x) l site part (received-keeps i x))) l in
+        onChannel-formed u long node-received i p (placeOf i m) popped (fit-receive .source) part near popped-keeps
         (λ j q e h g k.
-        let bytes′ = subst Bytes (sym (channel-atNode t m p (received i x) l site part received-keeps j q e)) (bytes-channelOf t bytes j q e) in
+        let bytes′ = subst Bytes (sym (channel-atNode t m p (received i x) l site part (received-keeps i x) j q e)) (bytes-channelOf t bytes j q e) in
         popped-kept (settingIn u) j q e (channelOf (siteOf u j) q e) (length-channelOf u j q long h g e k) bytes′ (node-received .channel j q e h g k))
 
   core-formed : (c : Change) → Lawful c (decode t) → Formed (putCore c t)

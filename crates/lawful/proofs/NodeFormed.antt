@@ -23,23 +23,19 @@ use Rattle.record.proofs.Ranges.{LawfulVec, vec-facts, vec-lawful, with-entry-l
 use Rattle.record.proofs.RecordFormed.{record-formed-ext, record-formed-put}
 use Rattle.parts.specs.Node.{slotAt, clockIn, heardIn, heldIn, clockSet, stored, published, received}
 use Rattle.parts.specs.Room.{Room}
-use Rattle.parts.proofs.NodeBytes.{clock-clockSet, heard-clockSet, load-update, held-update, clock-stored, heard-stored, clock-published, heard-published}
+use Rattle.parts.proofs.NodeBytes.{held-before, room-before, clock-clockSet, heard-clockSet, load-update, held-update, clock-stored, heard-stored, clock-published, heard-published}
 use Rattle.lawful.proofs.Facts.{NodeFacts}
 
 module _ (c : Setting) (m p : ℕ) where
   -- ---- a put before the records
 
   module _ (n : List ℕ) (w at v : ℕ) (h : at + w ≤ 40) where
-    held-before : heldIn (put w n at v) ≡ heldIn n
-    unfolding heldIn
-    held-before = load-put-other 1 w n at v 40 (λ k a b d e. omega arith)
-
     facts-before : T (timeLawful (clockIn (put w n at v))) → T (vecLawful c (heardIn (put w n at v))) → NodeFacts c m p n → NodeFacts c m p (put w n at v)
     facts-before clock heard F = record {
       clock = clock;
       heard = heard;
-      held = rw held-before (F .held);
-      slots = λ k b. rw (record-formed-ext c p (put w n at v) n (slotAt k) (λ u j a d. load-put-other u w n at v j (λ i e f g l. omega arith))) (F .slots k (omega (arith, held-before)));
+      held = rw (held-before n w at v h) (F .held);
+      slots = λ k b. rw (record-formed-ext c p (put w n at v) n (slotAt k) (λ u j a d. load-put-other u w n at v j (λ i e f g l. omega arith))) (F .slots k (omega (arith, held-before n w at v h)));
     }
 
   pub clock-kept : (t : ℕ) (n : List ℕ) → length n ≡ 1856 → t < timeLimit → NodeFacts c m p n → NodeFacts c m p (clockSet t n)
@@ -88,14 +84,10 @@ module _ (c : Setting) (m p : ℕ) where
     }
     stored-kept i (Heartbeat t) n l ok room F = unfold stored in F
 
-    room-entry : (x : Msg) (n : List ℕ) (i v : ℕ) → i < 4 → Room x n → Room x (put 8 n (8 + 8 * i) v)
-    room-entry (Update r) n i v h room = omega (arith, held-before n 8 (8 + 8 * i) v (omega arith))
-    room-entry (Heartbeat t) n i v h room = tt
-
     -- a lawful message of site i, with a stamp in its entry
     message-kept : (i v : ℕ) (x : Msg) (n : List ℕ) → length n ≡ 1856 → i < c .sites → v < topOf c → LawfulMsg c i p x → Room x n → NodeFacts c m p n → NodeFacts c m p (stored x (put 8 n (8 + 8 * i) v))
     message-kept i v x n l h b ok room F =
-        stored-kept i x (put 8 n (8 + 8 * i) v) (length-put 8 n (8 + 8 * i) v ∙ l) ok (room-entry x n i v (omega arith) room) (entry-kept n i v l few h b F)
+        stored-kept i x (put 8 n (8 + 8 * i) v) (length-put 8 n (8 + 8 * i) v ∙ l) ok (room-before n 8 (8 + 8 * i) v (omega arith) x room) (entry-kept n i v l few h b F)
 
     -- ---- its own message, and another's
 

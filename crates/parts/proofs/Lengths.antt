@@ -1,9 +1,10 @@
--- Every change of a node's, a channel's or a session's bytes keeps their number.
+-- Every change of a node's, a channel's or a session's bytes keeps their number; and, last, the number that each has (`..-keeps`).
 use Prim.Native.Nat.{ℕ, suc, _+_, _*_, max}
 use mathlib.Core.Path.{_≡_, refl, _∙_}
 use mathlib.Core.List.{List, [], _∷_}
 use lib.ListN.{length}
 use Rattle.codec.specs.Le.{load, put}
+use Rattle.codec.specs.Part.{Keeps}
 use Rattle.codec.proofs.Le.{length-put}
 use Rattle.vector.proofs.Entries.{length-putVec}
 use Rattle.protocol.specs.Record.{Msg, Update, Heartbeat, stampIn}
@@ -55,3 +56,23 @@ length-putMarks b i (m ∷ ms) = length-putMarks (put 1 (put 1 b (8 + i) (m .key
 pub length-putSession : (x : Session) (b : List ℕ) → length (putSession x b) ≡ length b
 unfolding putSession
 length-putSession x b = simp (length-putMarks, length-putVec, length-put)
+
+-- ---- as something that is done to a part
+
+pub clockSet-keeps : (t : ℕ) → Keeps 1856 (clockSet t)
+clockSet-keeps t n e = length-clockSet t n ∙ e
+
+pub published-keeps : (m : ℕ) (x : Msg) → Keeps 1856 (published m x)
+published-keeps m x n e = length-published m x n ∙ e
+
+pub received-keeps : (i : ℕ) (x : Msg) → Keeps 1856 (received i x)
+received-keeps i x n e = length-received i x n ∙ e
+
+pub pushed-keeps : (m : ℕ) (x : Msg) → Keeps 464 (pushed m x)
+pushed-keeps m x c e = length-pushed m x c ∙ e
+
+pub popped-keeps : Keeps 464 popped
+popped-keeps c e = length-popped c ∙ e
+
+pub putSession-keeps : (x : Session) → Keeps 128 (putSession x)
+putSession-keeps x b e = length-putSession x b ∙ e

@@ -31,14 +31,14 @@ unfolding storeIn
 store-ext s n held same = rw held (tab-ext (heldIn n) (λ k. recordAt s (slotAt k)) (λ k. recordAt n (slotAt k)) (λ k b. record-ext s n (slotAt k) (same k)))
 
 module _ (n : List ℕ) (w at v : ℕ) (h : at + w ≤ 40) where
-  held-before : heldIn (put w n at v) ≡ heldIn n
+  pub held-before : heldIn (put w n at v) ≡ heldIn n
   unfolding heldIn
   held-before = load-put-other 1 w n at v 40 (λ k a b c d. omega arith)
 
   store-before : storeIn (put w n at v) ≡ storeIn n
   store-before = store-ext (put w n at v) n held-before (λ k u j p q. load-put-other u w n at v j (λ i a b c d. omega arith))
 
-  room-before : (x : Msg) → Room x n → Room x (put w n at v)
+  pub room-before : (x : Msg) → Room x n → Room x (put w n at v)
   room-before (Update r) room = omega (arith, held-before)
   room-before (Heartbeat t) room = tt
 

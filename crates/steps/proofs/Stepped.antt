@@ -1,12 +1,13 @@
 -- A step on a well-formed table by its tests: an event of which a field is not lawful is refused with 11, and of any other the protocol decides with
 -- its ranges met.
 use Prim.Native.Nat.{ℕ}
-use mathlib.Core.Path.{_≡_, refl, sym, ap, subst, _∙_}
+use mathlib.Core.Path.{_≡_, sym, ap, subst, _∙_}
 use mathlib.Core.Logic.{_⊎_, inl, inr}
 use mathlib.Core.Bool.{Bool, true, false, cond, not, _&&_}
 use mathlib.Core.List.{List, [], _∷_}
 use lib.Dec.{T}
 use mir.Facts.{T-not, and-yes, yes-and, and-no}
+use Rattle.codec.proofs.Tests.{cond-yes, cond-not, cond-both}
 use Rattle.protocol.specs.Record.{Setting}
 use Rattle.protocol.specs.State.{State}
 use Rattle.protocol.specs.Event.{Event, plain}
@@ -30,23 +31,11 @@ use Rattle.steps.specs.Step.{gives, refused, fieldsTest, stepOn}
 
 -- ---- tests that are known
 
-pub cond-yes {ℓ} : {A : Type ℓ} (b : Bool) (x y : A) → T b → cond b x y ≡ x
-cond-yes true x y t = refl
-cond-yes false x y t = absurd t
-
-pub cond-not {ℓ} : {A : Type ℓ} (b : Bool) (x y : A) → T (not b) → cond b x y ≡ y
-cond-not true x y t = absurd t
-cond-not false x y t = refl
-
 pub is-yes : (b : Bool) → b ≡ true → T b
 is-yes b e = rw e tt
 
 pub is-no : (b : Bool) → b ≡ false → T (not b)
 is-no b e = rw e tt
-
-cond-same {ℓ} : {A : Type ℓ} (b : Bool) (x : A) → cond b x x ≡ x
-cond-same true x = refl
-cond-same false x = refl
 
 -- ---- a step, where its ranges are met and where not
 
@@ -88,7 +77,7 @@ fields-unlawful t e l n = cond-yes (codeLawful e) _ _ l ∙ go (and-no (unusedZe
 
     go : T (not (unusedZero e)) ⊎ T (not (met (ranges (settingIn t) (eventOf e)))) → cond (unusedZero e) (gives (o .says) (putChanges (o .changes) t)) (refused 11 t) ≡ refused 11 t
     go (inl u) = cond-not (unusedZero e) _ _ u
-    go (inr u) = ap (λ r. cond (unusedZero e) (gives (r .says) (putChanges (r .changes) t)) (refused 11 t)) (step-unmet (decode t) (eventOf e) (unfold decode in u)) ∙ cond-same (unusedZero e) (refused 11 t)
+    go (inr u) = ap (λ r. cond (unusedZero e) (gives (r .says) (putChanges (r .changes) t)) (refused 11 t)) (step-unmet (decode t) (eventOf e) (unfold decode in u)) ∙ cond-both (unusedZero e) (refused 11 t)
 
 pub fields-lawful-step : (t e : List ℕ) → T (codeLawful e) → T (fieldsTest t e) →
     stepOn t e ≡ gives (answered (decode t) (eventOf e) .says) (putChanges (answered (decode t) (eventOf e) .changes) t)

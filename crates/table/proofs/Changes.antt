@@ -17,9 +17,10 @@ use Rattle.protocol.specs.Change.{at}
 use Rattle.protocol.proofs.Nodes.{at-yes, yes-at}
 use Rattle.parts.specs.Node.{published}
 use Rattle.parts.specs.Channel.{pushed}
-use Rattle.parts.proofs.Lengths.{length-published, length-pushed}
+use Rattle.parts.proofs.Lengths.{published-keeps, pushed-keeps}
 use Rattle.table.specs.Parts.{Long, placeOf, siteOf, nodeOf, channelOf, onSite, onNode, onChannel}
 use Rattle.table.specs.Put.{sentTo, publishedOn}
+use Rattle.table.proofs.Sent.{length-sent}
 use Rattle.table.proofs.Parts.{length-onNode, node-onNode, channel-onNode, length-onChannel, channel-onChannel, node-onChannel, read-onSite}
 
 -- ---- choices
@@ -128,20 +129,11 @@ taken-takenFrom i m p h j q d g = same-test (taken i m p h q (placeOf h j)) (tak
 -- ---- a site after a message was sent to the first n of its channels
 
 module _ (m p : ℕ) (x : Msg) (s : List ℕ) (l : length s ≡ 13056) (h : p < 4) where
-  pushed-keeps : Keeps 464 (pushed m x)
-  pushed-keeps c e = length-pushed m x c ∙ e
-
-  length-sentTo : (n : ℕ) → n ≤ 3 → length (sentTo n m p x s) ≡ 13056
-  unfolding sentTo
-  length-sentTo zero b = l
-  length-sentTo (suc n) b =
-      let r = length-sentTo n (omega arith) in length-onChannel (sentTo n m p x s) p n (pushed m x) r h (omega arith) pushed-keeps ∙ r
-
   node-sentTo : (n : ℕ) → n ≤ 3 → (q : ℕ) → nodeOf (sentTo n m p x s) q ≡ nodeOf s q
   unfolding sentTo
   node-sentTo zero b q = refl
   node-sentTo (suc n) b q =
-      node-onChannel (sentTo n m p x s) p n (pushed m x) (length-sentTo n (omega arith)) h (omega arith) pushed-keeps q ∙ node-sentTo n (omega arith) q
+      node-onChannel (sentTo n m p x s) p n (pushed m x) (length-sent m p x s l h n (omega arith)) h (omega arith) (pushed-keeps m x) q ∙ node-sentTo n (omega arith) q
 
   channel-sentTo : (n : ℕ) → n ≤ 3 → (q e : ℕ) → channelOf (sentTo n m p x s) q e ≡ cond (eqb q p && ltb e n) (pushed m x (channelOf s q e)) (channelOf s q e)
   unfolding sentTo
@@ -149,32 +141,29 @@ module _ (m p : ℕ) (x : Msg) (s : List ℕ) (l : length s ≡ 13056) (h : p < 
       cond-no (eqb q p && ltb e 0) (pushed m x (channelOf s q e)) (channelOf s q e)
       (λ t. let g : e < 0 = ltb-yes (and-yes (eqb q p) (ltb e 0) t .1) in omega arith)
   channel-sentTo (suc n) b q e =
-      channel-onChannel (sentTo n m p x s) p n (pushed m x) (length-sentTo n (omega arith)) h (omega arith) pushed-keeps q e
+      channel-onChannel (sentTo n m p x s) p n (pushed m x) (length-sent m p x s l h n (omega arith)) h (omega arith) (pushed-keeps m x) q e
       ∙ cond-more (pushed m x) (eqb q p) (eqb e n) (ltb e n) (ltb e (suc n)) (channelOf s q e) (channelOf (sentTo n m p x s) q e) (channel-sentTo n (omega arith) q e) (ltb-suc e n)
       (λ t. let g : e ≡ n = eqb-yes t in le-ltb e n (omega arith))
 
 -- "to each other site": the node and the first n channels of a partition
 module _ (n m p : ℕ) (x : Msg) (s : List ℕ) (l : length s ≡ 13056) (h : p < 4) (few : n ≤ 3) where
-  published-keeps : Keeps 1856 (published m x)
-  published-keeps c e = length-published m x c ∙ e
-
   length-own : length (onNode p (published m x) s) ≡ 13056
-  length-own = length-onNode s p (published m x) l h published-keeps ∙ l
+  length-own = length-onNode s p (published m x) l h (published-keeps m x) ∙ l
 
   length-publishedOn : length (publishedOn n m p x s) ≡ 13056
   unfolding publishedOn
-  length-publishedOn = length-sentTo m p x (onNode p (published m x) s) length-own h n few
+  length-publishedOn = length-sent m p x (onNode p (published m x) s) length-own h n few
 
   node-publishedOn : (q : ℕ) → nodeOf (publishedOn n m p x s) q ≡ cond (eqb q p) (published m x (nodeOf s q)) (nodeOf s q)
   unfolding publishedOn
   node-publishedOn q =
-      node-sentTo m p x (onNode p (published m x) s) length-own h n few q ∙ node-onNode s p (published m x) l h published-keeps q
+      node-sentTo m p x (onNode p (published m x) s) length-own h n few q ∙ node-onNode s p (published m x) l h (published-keeps m x) q
 
   channel-publishedOn : (q e : ℕ) → channelOf (publishedOn n m p x s) q e ≡ cond (eqb q p && ltb e n) (pushed m x (channelOf s q e)) (channelOf s q e)
   unfolding publishedOn
   channel-publishedOn q e =
       channel-sentTo m p x (onNode p (published m x) s) length-own h n few q e
-      ∙ ap (λ c. cond (eqb q p && ltb e n) (pushed m x c) c) (channel-onNode s p (published m x) l h published-keeps q e)
+      ∙ ap (λ c. cond (eqb q p && ltb e n) (pushed m x c) c) (channel-onNode s p (published m x) l h (published-keeps m x) q e)
 
 -- ---- the table's nodes and channels after f was done to node (m, p)
 

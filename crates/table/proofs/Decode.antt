@@ -20,7 +20,7 @@ use Rattle.protocol.proofs.Nodes.{at-yes, at-elim}
 use Rattle.parts.specs.Node.{clockIn, heardIn, storeIn, clockSet, published, received}
 use Rattle.parts.specs.Channel.{queueIn, pushed, popped}
 use Rattle.parts.specs.Session.{sessionIn, putSession}
-use Rattle.parts.proofs.Lengths.{length-clockSet, length-received, length-popped, length-putSession}
+use Rattle.parts.proofs.Lengths.{clockSet-keeps, received-keeps, popped-keeps, putSession-keeps}
 use Rattle.parts.proofs.NodeBytes.{clock-clockSet, heard-clockSet, store-clockSet, clock-published, heard-published, store-published, clock-received, heard-received, store-received}
 use Rattle.parts.proofs.ChannelBytes.{queue-pushed, queue-popped}
 use Rattle.parts.proofs.SessionBytes.{session-putSession}
@@ -31,20 +31,6 @@ use Rattle.table.specs.Fits.{FitsPublish, FitsReceive, Fits, FitsAll}
 use Rattle.table.proofs.Parts.{long-still, length-session, length-onSession, session-onSession, site-onSession, load-onSession, length-onSite, session-onSite, load-onSite, bytes-nodeOf, bytes-channelOf, length-nodeOf, length-channelOf}
 use Rattle.table.proofs.Changes.{sent, sentBy, sentBy-yes, sent-sentBy, taken, takenFrom, taken-takenFrom, place-lt, onNode-keeps, node-atNode, channel-atNode, onChannel-keeps, node-atChannel, channel-atChannel, publishedOn-keeps, node-atPublish, channel-atPublish}
 use Rattle.table.proofs.KeptPlaces.{state-ext, length-anew, setting-anew, decode-anew, after-elim}
-
--- ---- a change keeps a thing's length
-
-putSession-keeps : (x : Session) → Keeps 128 (putSession x)
-putSession-keeps x s e = length-putSession x s ∙ e
-
-clockSet-keeps : (c : ℕ) → Keeps 1856 (clockSet c)
-clockSet-keeps c s e = length-clockSet c s ∙ e
-
-received-keeps : (i : ℕ) (x : Msg) → Keeps 1856 (received i x)
-received-keeps i x s e = length-received i x s ∙ e
-
-popped-keeps : Keeps 464 popped
-popped-keeps s e = length-popped s ∙ e
 
 -- ---- choices, and what is read of a node or a channel that changed
 

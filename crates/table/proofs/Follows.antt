@@ -10,15 +10,15 @@ use lib.ListN.{getD}
 use borrow.Rule.Slice.PartMut.{putMid, put-same}
 use Rattle.codec.specs.Le.{load}
 use Rattle.codec.proofs.Le.{load-byte}
-use Rattle.codec.proofs.Tests.{cond-elim}
+use Rattle.codec.proofs.Tests.{cond-elim, cond-not}
 use Rattle.protocol.specs.Record.{Setting, Msg, Update, Heartbeat, recordsIn}
 use Rattle.protocol.specs.Change.{Change, SetSession, SetClock, Publish, Receive, at}
-use Rattle.protocol.proofs.Nodes.{at-yes, at-own, at-others}
+use Rattle.protocol.proofs.Nodes.{at-yes, at-own}
 use Rattle.parts.specs.Node.{storeIn, clockSet, received}
 use Rattle.parts.specs.Channel.{popped}
 use Rattle.parts.specs.Session.{putSession}
 use Rattle.parts.specs.Room.{Room}
-use Rattle.parts.proofs.Lengths.{length-clockSet, length-received, length-popped, length-putSession}
+use Rattle.parts.proofs.Lengths.{clockSet-keeps, received-keeps, popped-keeps, putSession-keeps}
 use Rattle.search.specs.Kept.{placeIn, placesIn}
 use Rattle.search.proofs.Kept.{place-held, places-at, places-same, held-grown, places-grown}
 use Rattle.table.specs.Parts.{Whole, Long, keptAt, placeOf, siteOf, nodeOf, keptOf, onSite, onNode, onChannel, onKept}
@@ -47,20 +47,20 @@ module _ (t : List ℕ) (m p : ℕ) (h : m < 4) (g : p < 4) where
 
 kept-core : (c : Change) (t : List ℕ) → Whole t → Fits c t → (j q : ℕ) → keptOf (putCore c t) j q ≡ keptOf t j q
 unfolding putCore
-kept-core (SetSession s x) t l fit j q = kept-onSession t (putSession x) l s (fit .0) (λ b e. length-putSession x b ∙ e) j q
+kept-core (SetSession s x) t l fit j q = kept-onSession t (putSession x) l s (fit .0) (putSession-keeps x) j q
 kept-core (SetClock m p c) t l fit j q =
-    kept-onSite t (onNode p (clockSet c)) l m (fit .0) (onNode-keeps t m p (clockSet c) (omega arith) (fit .0) (fit .1) (λ n e. length-clockSet c n ∙ e)) j q
+    kept-onSite t (onNode p (clockSet c)) l m (fit .0) (onNode-keeps t m p (clockSet c) (omega arith) (fit .0) (fit .1) (clockSet-keeps c)) j q
 kept-core (Publish m p x) t l fit j q =
     let h : m < 4 = omega (arith, fit .site, fit .sites) in
     let few : load 1 t 0 - 1 ≤ 3 = omega (arith, fit .sites) in
     kept-onSite t (publishedOn (load 1 t 0 - 1) m p x) l m h (publishedOn-keeps t (load 1 t 0 - 1) m p x (omega arith) h (fit .partition) few) j q
 kept-core (Receive i m p x) t l fit j q =
     let long : Long t = omega arith in
-    let keeps = onNode-keeps t m p (received i x) long (fit .site) (fit .partition) (λ n e. length-received i x n ∙ e) in
+    let keeps = onNode-keeps t m p (received i x) long (fit .site) (fit .partition) (received-keeps i x) in
     let u = onSite m (onNode p (received i x)) t in
     let same = length-onSite t m (onNode p (received i x)) long (fit .site) keeps in
     let near = place-lt 4 i m (fit .source) (fit .site) (fit .other) in
-    let keeps′ = onChannel-keeps u i p (placeOf i m) popped (long-still t u same long) (fit .source) (fit .partition) near (λ b e. length-popped b ∙ e) in
+    let keeps′ = onChannel-keeps u i p (placeOf i m) popped (long-still t u same long) (fit .source) (fit .partition) near popped-keeps in
     kept-onSite u (onChannel p (placeOf i m) popped) (omega (arith, same)) i (fit .source) keeps′ j q
     ∙ kept-onSite t (onNode p (received i x)) l m (fit .site) keeps j q
 
@@ -175,7 +175,7 @@ change-kept (SetSession s x) t l fit = λ K j q a b. idle-kept (SetSession s x) 
 change-kept (SetClock m p c) t l fit = λ K j q a b. idle-kept (SetClock m p c) t l fit j q (store-setClock m p c t (omega arith) fit j q) (K j q a b)
 change-kept (Publish m p x) t l fit =
     anew-kept (Publish m p x) t l fit m p (omega (arith, fit .site, fit .sites)) (fit .partition)
-    (λ j q n. store-publish m p x t (omega arith) fit j q ∙ at-others m p j q _ _ n)
+    (λ j q n. store-publish m p x t (omega arith) fit j q ∙ cond-not (at m p j q) _ _ n)
 change-kept (Receive i m p x) t l fit =
     anew-kept (Receive i m p x) t l fit m p (fit .site) (fit .partition)
-    (λ j q n. store-receive i m p x t (omega arith) fit j q ∙ at-others m p j q _ _ n)
+    (λ j q n. store-receive i m p x t (omega arith) fit j q ∙ cond-not (at m p j q) _ _ n)

@@ -7,10 +7,9 @@ use native.Mathlib.Numerals.{add-one}
 use native.Mathlib.Omega.{arith}
 use borrow.Author.Tests.{eq-eqb, ne-eqb}
 use lib.ListN.{length}
-use Rattle.codec.specs.Part.{Keeps}
 use Rattle.protocol.specs.Record.{Msg}
 use Rattle.parts.specs.Channel.{pushed}
-use Rattle.parts.proofs.Lengths.{length-pushed}
+use Rattle.parts.proofs.Lengths.{pushed-keeps}
 use Rattle.table.specs.Parts.{channelOf, onChannel}
 use Rattle.table.specs.Put.{sentTo}
 use Rattle.table.proofs.Parts.{length-onChannel, channel-onChannel}
@@ -23,19 +22,16 @@ pub sent-step : (n m p : ℕ) (x : Msg) (site : List ℕ) → sentTo (n + 1) m p
 sent-step n m p x site = rw (add-one n) (unfold sentTo in refl)
 
 module _ (m p : ℕ) (x : Msg) (site : List ℕ) (l : length site ≡ 13056) (h : p < 4) where
-  keeps : Keeps 464 (pushed m x)
-  keeps s e = length-pushed m x s ∙ e
-
   pub length-sent : (n : ℕ) → n ≤ 3 → length (sentTo n m p x site) ≡ 13056
   unfolding sentTo
   length-sent zero g = l
   length-sent (suc n) g =
       let k = length-sent n (omega arith) in
-      length-onChannel (sentTo n m p x site) p n (pushed m x) k h (omega arith) keeps ∙ k
+      length-onChannel (sentTo n m p x site) p n (pushed m x) k h (omega arith) (pushed-keeps m x) ∙ k
 
   pub channel-sent : (n e : ℕ) → n ≤ e → e < 3 → channelOf (sentTo n m p x site) p e ≡ channelOf site p e
   unfolding sentTo
   channel-sent zero e b g = refl
   channel-sent (suc n) e b g =
-      channel-onChannel (sentTo n m p x site) p n (pushed m x) (length-sent n (omega arith)) h (omega arith) keeps p e
+      channel-onChannel (sentTo n m p x site) p n (pushed m x) (length-sent n (omega arith)) h (omega arith) (pushed-keeps m x) p e
       ∙ rw (eq-eqb p p refl, ne-eqb e n (omega arith)) (channel-sent n e (omega arith) g)

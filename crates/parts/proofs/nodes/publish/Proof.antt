@@ -1,10 +1,11 @@
 -- `parts::nodes::publish` meets its contract: the entry is set, and the message stored.
+use Prim.Native.Nat.{_+_, _*_}
 use mathlib.Core.Path.{_∙_}
 use native.Mathlib.Omega.{arith}
 use borrow.Author.Needs.{needs}
 use Rattle.record.specs.Meaning.{asMessage}
 use Rattle.parts.specs.Node.{published}
-use Rattle.parts.proofs.Room.{room-heard}
+use Rattle.parts.proofs.NodeBytes.{room-before}
 use Rattle.parts.proofs.nodes.publish.Statement.{statement}
 use Rattle.parts.proofs.nodes.publish.Tie as tie
 
@@ -24,7 +25,7 @@ store-requires : tie.Need-store-requires
 store-requires c κs =
     let k = c .before .before .before in
     let s = k .before .before .before .before in
-    (omega arith, rw (k .store-u64 .ensures) (room-heard (asMessage (s .args .x)) (s .args .n .now) (s .args .m) _ (omega arith) (s .pre .2)))
+    (omega arith, rw (k .store-u64 .ensures) (room-before (s .args .n .now) 8 (8 + 8 * s .args .m) _ (omega arith) (asMessage (s .args .x)) (s .pre .2)))
 
 same-length : tie.Need-same-length
 same-length c = search needs

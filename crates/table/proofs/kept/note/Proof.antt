@@ -1,6 +1,5 @@
 -- `table::kept::note` meets its contract: the node and its kept place are read, and the one byte is set in what is lent.
 use mathlib.Core.Path.{_≡_, ap, _∙_}
-use Prim.Native.Nat.{_-_}
 use native.Mathlib.Omega.{arith}
 use Rattle.codec.specs.Le.{put}
 use Rattle.parts.specs.Node.{heldIn}
