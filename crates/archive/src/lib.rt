@@ -1,5 +1,8 @@
 // The level archive over one lent table of 57,344 bytes, for any event bytes and any table: no function here requires anything. Each states its answer
 // and the bytes afterwards as one equation. In order: setup, a step, many steps; `port` has them for callers in C and Rust.
+
+#![tactic(auto)]
+
 ghost use Rattle.std.specs.Prelude.{◌≡◌, ◌+◌, ◌/◌, min, length, replicate};
 ghost use Rattle.steps.specs.Step.{gives};
 ghost use Rattle.steps.specs.Run.{ran};

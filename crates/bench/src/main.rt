@@ -1,6 +1,9 @@
 // The bench (R90 to R92): events from standard input go into an archive of 4 sites and 4 partitions, and a line for each goes to standard output.
 // In order: the text of a line, lines, the reading in pieces of 64 KiB. Text is appended; a full buffer would drop it, so
 // `room` writes the buffer out before each line. No contract can say what is read or written.
+
+#![tactic(auto)]
+
 ghost use Rattle.std.specs.Prelude.{◌+◌, ◌*◌, ◌≤◌, length};
 
 use libc::{STDIN_FILENO, STDOUT_FILENO};

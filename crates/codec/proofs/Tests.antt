@@ -8,7 +8,6 @@ use mathlib.Core.List.{List, [], ◌∷◌, ◌++◌}
 use lib.Dec.{T, eqb, eqb_refl}
 use lib.ListN.{get_or}
 use mir.Facts.{and_yes, yes_and}
-use borrow.Author.Tests.{not-true, not-false}
 use Rattle.codec.specs.Tests.{every, Hold, Passed, last_of, joined}
 
 pub cond_elim {ℓ κ} : {A : Type ℓ} (P : A → Type κ) (b : Bool) {x y : A} → (T b → P x) → (T (not b) → P y) → P (cond b x y)
@@ -54,11 +53,13 @@ and_behind false b c h = refl
 -- z must hold unless u, and a if u: one of the two holds
 pub either_yes {ℓ} : {R : Type ℓ} (u z a : Bool) → T ((u || z) && (not u || a)) → (T a → R) → (T z → R) → R
 either_yes true z a t f g = f t
+either_yes {R = R} false false a t f g = elim t [ ]
 either_yes false true a t f g = g tt
 
 -- and where u does, a
 pub used_yes : (u z a : Bool) → T u → T ((u || z) && (not u || a)) → T a
 used_yes true z a h t = t
+used_yes false z a h t = elim h [ ]
 
 pub and_turn : (a b c : Bool) → (a && b && c) ≡ (a && c && b)
 and_turn a b c = and_assoc a b c ∙ ap (λ (d : Bool). a && d) (and_comm b c) ∙ sym (and_assoc a c b)
@@ -67,18 +68,20 @@ and_turn a b c = and_assoc a b c ∙ ap (λ (d : Bool). a && d) (and_comm b c) �
 pub no_and : {a : Bool} (b : Bool) → a ≡ false → false ≡ (a && b)
 no_and b e = rw e
 
-pub fails : {r x : Bool} → r ≡ x → not r ≡ true → x ≡ false
-fails {r} e h = sym e ∙ not-true r h
+pub fails : {r x : Bool} → r ≡ x → r ≡ false → x ≡ false
+fails e h = sym e ∙ h
 
-pub passes : {r x : Bool} → r ≡ x → not r ≡ false → x ≡ true
-passes {r} e h = sym e ∙ not-false r h
+pub passes : {r x : Bool} → r ≡ x → r ≡ true → x ≡ true
+passes e h = sym e ∙ h
 
 module _ {ℓ} {A : Type ℓ} where
   pub cond_yes : (b : Bool) (x y : A) → T b → cond b x y ≡ x
   cond_yes true x y t = refl
+  cond_yes false x y t = elim t [ ]
 
   pub cond-not : (b : Bool) (x y : A) → T (not b) → cond b x y ≡ y
   cond-not false x y t = refl
+  cond-not true x y t = elim t [ ]
 
   pub cond_no : (b : Bool) (x y : A) → (T b → ⊥) → y ≡ cond b x y
   cond_no true x y n = absurd (n tt)

@@ -1,5 +1,8 @@
 // The numbers of a table and an event: little-endian, of 1, 4 and 8 bytes, and signed levels of 4. Reads and writes only the bytes named.
 // In order: a number of any width, the three widths that are used, levels.
+
+#![tactic(auto)]
+
 ghost use Rattle.std.specs.Prelude.{◌≡◌, ◌+◌, ◌≤◌, ◌<◌, length};
 ghost use Rattle.codec.specs.Le.{load, put};
 ghost use Rattle.codec.specs.Tabulate.{tabulate};

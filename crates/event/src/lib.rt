@@ -1,5 +1,8 @@
 // R30: what an event's 32 bytes say, and refusals 10 and 11. In order: the fields as values, the code, all the fields. Which code uses which
 // field is in flags, the range of each field in bounds. It reads the event alone.
+
+#![tactic(auto)]
+
 ghost use Rattle.std.specs.Prelude.{◌≡◌, true, ◌&&◌, ◌<◌, ◌-◌, length};
 ghost use Rattle.codec.specs.Below.{all_below};
 ghost use Rattle.protocol.specs.Needs.{ranges};

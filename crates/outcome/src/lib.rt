@@ -1,5 +1,8 @@
 // What a decision is made of, by value: its answer, what is then carried out, and the session as it is left. Here are the values. The files: marks (the keys of a
 // page and which of them were read), keeping (a session opened, closed, with a page begun, read on, ended), raising (a session's vector), answers.
+
+#![tactic(auto)]
+
 use parts::Session;
 use protocol::Answer;
 use record::Message;

@@ -1,5 +1,8 @@
 // The parts of a table, each by its own bytes and wherever it stands: a node's 1,856, a channel's 464 and a session's 128. Each file has what a part's bytes say
 // and how they change. Here is the session that the code holds.
+
+#![tactic(auto)]
+
 use vector::Vector;
 
 pub mod channels;

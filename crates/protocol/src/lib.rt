@@ -1,5 +1,8 @@
 // The rules of docs/RULES.md without bytes: the definitions are in specs/, what is proved of them in proofs/. The code here is the answer, the very
 // type that the definitions use, and the values that it stands for; `limits` has the constants that setup fixes, and limits. It touches nothing.
+
+#![tactic(auto)]
+
 ghost use Rattle.std.specs.Prelude.{◌≡◌};
 ghost use Rattle.protocol.specs.Event.{five, values_of};
 

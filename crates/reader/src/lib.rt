@@ -1,5 +1,8 @@
 // The reader: it holds the event bytes and its place in them together. The work is in `piece`, on the bytes and a number; `event_of`, whose
 // parameters are plain, serves every caller. In order: the piece, the reader, the event at a place.
+
+#![tactic(auto)]
+
 ghost use Rattle.std.specs.Prelude.{◌≡◌, min};
 ghost use Rattle.reader.specs.Pieces.{piece_of};
 

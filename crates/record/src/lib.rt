@@ -1,6 +1,9 @@
 // A record's and a message's 48 bytes (R17). Here are the values that the code holds: a record's numbers, a record, a message, and a
 // letter, which is a message with the vector that an update carries. The files: bytes (read and written), times (what is lawful of a time and a vector),
 // formed (what is lawful of a record's and a message's bytes).
+
+#![tactic(auto)]
+
 use vector::Vector;
 
 pub mod bytes;

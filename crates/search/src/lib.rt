@@ -1,5 +1,8 @@
 // The search for the newest record of a node that fits a page. In order: whether a record fits, one more record beside the best so far, all, what stands at
 // a place, and what is found. A place is counted from 1, and 0 is none. Nothing of a record is read but what these tests ask.
+
+#![tactic(auto)]
+
 ghost use Rattle.std.specs.Prelude.{◌≡◌, ℕ, ◌+◌, ◌*◌, ◌-◌, ◌≤◌, ◌<◌, length};
 ghost use Rattle.protocol.specs.Record.{Setting, newest};
 ghost use Rattle.protocol.specs.Search.{later_place, better_place, newest_place, placed};

@@ -1,5 +1,8 @@
 // A step on a table known to be well formed: the protocol's decision, carried out; and many of them. In order: what is decided, by the event's code, and
 // the step.
+
+#![tactic(auto)]
+
 ghost use Rattle.std.specs.Prelude.{◌≡◌, true, T, length};
 ghost use Rattle.event.specs.Event.{code_lawful, event_of};
 ghost use Rattle.table.specs.Parts.{Whole};

@@ -1,6 +1,9 @@
 // The whole table's bytes. `places` says where each part stands, and lends it for reading; `sites` has the changes of a site's part, and `kept` the kept
 // places. Here are the setup's constants as they are read, and the protocol's four changes, each of which lends the part that it changes: a session's, or a
 // site's, which starts in the table's middle; where a node may have stored a record, its kept place follows.
+
+#![tactic(auto)]
+
 ghost use Rattle.std.specs.Prelude.{◌≡◌, ◌-◌, ◌≤◌, ◌<◌};
 ghost use Rattle.protocol.specs.Meaning.{setting_of};
 ghost use Rattle.protocol.specs.Change.{SetSession, SetClock, Publish, Receive};

@@ -1,0 +1,10 @@
+use native.Mathlib.Omega.{arith}
+use Rattle.codec.specs.Le.{span}
+use Rattle.codec.proofs.Le.{load_lt}
+use Rattle.codec.proofs.load_u32.Goals as goal
+
+pub overflow_cast-result : goal.overflow_cast-result
+unfolding span
+overflow_cast-result c =
+    let a = c.args in
+    omega (arith, load_lt 4 a.t.now a.at c.type_inv.t)

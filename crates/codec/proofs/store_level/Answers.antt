@@ -1,0 +1,11 @@
+use mathlib.Core.Path.{refl, ◌∙◌, ap}
+use mir.Syntax.{w32}
+use mir.ValLaws.{to_z-of_z}
+use Rattle.codec.specs.Level.{bits_of}
+use Rattle.codec.proofs.Le.{put-at}
+use Rattle.codec.proofs.store_level.Goals as goal
+
+pub returns : goal.returns
+returns c =
+    let bits = c.bits_of.ensures ∙ ap bits_of (to_z-of_z w32 c.args.x c.ranges.x) in
+    c.store_u32.ensures ∙ put-at _ refl refl bits

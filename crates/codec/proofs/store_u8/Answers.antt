@@ -1,0 +1,7 @@
+use native.Mathlib.Nat.{mod-eq_of_lt}
+use Rattle.codec.specs.Le.{put}
+use Rattle.codec.proofs.store_u8.Goals as goal
+
+pub returns : goal.returns
+unfolding put
+returns c = rw (mod-eq_of_lt c.ranges.x.fits)

@@ -1,0 +1,11 @@
+use mathlib.Core.Path.{refl, ◌∙◌}
+use Rattle.vector.specs.Entries.{entry}
+use Rattle.vector.specs.Meaning.{as_vec}
+use Rattle.vector.proofs.Entries.{with_later}
+use Rattle.vector.proofs.Vector.at_least.Goals as goal
+
+pub returns : goal.returns
+unfolding entry
+returns c =
+    let a = c.args in
+    c.with_entry.ensures ∙ rw c.later.ensures (with_later (as_vec a.self) a.m _ a.t refl)

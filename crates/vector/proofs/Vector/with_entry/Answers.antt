@@ -1,0 +1,9 @@
+use native.Mathlib.Omega.{arith}
+use borrow.Author.Rules.{rules}
+use Rattle.vector.proofs.Entries.{entry_set}
+use Rattle.vector.proofs.Vector.with_entry.Goals as goal
+
+pub returns : goal.returns
+returns c =
+    let a = c.args in
+    entry_set a.self.entries a.m a.t (search rules) (omega arith)
