@@ -14,7 +14,7 @@ use Rattle.protocol.specs.Shelf.{found}
 use Rattle.protocol.specs.State.{Session, State, with_vec, with_page, setup}
 use Rattle.protocol.specs.Event.{Event, OPEN, CLOSE, CLOCK, GET, PUT, BEGIN, READ, END, BEAT, DELIVER, Answer, Stamped, Nothing, wait_for, shown}
 use Rattle.protocol.specs.View.{View, view}
-use Rattle.protocol.specs.Needs.{◌orElse◌, ◌else◌, ranges, to_pass, put_ready, store_room, send_room, needs}
+use Rattle.protocol.specs.Needs.{◌or_else◌, ◌else◌, ranges, to_pass, put_ready, store_room, send_room, needs}
 use Rattle.protocol.specs.Change.{SetSession, Publish, apply_all}
 use Rattle.protocol.specs.Serve.{Outcome, ◌and◌, read_on, written, serve}
 use Rattle.protocol.specs.Step.{judge, judged, decide, Line, log}

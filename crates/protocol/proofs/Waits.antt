@@ -17,7 +17,7 @@ use Rattle.protocol.specs.Record.{partition_of}
 use Rattle.protocol.specs.State.{Session, State}
 use Rattle.protocol.specs.Event.{Event, OPEN, CLOSE, CLOCK, GET, PUT, BEGIN, READ, END, BEAT, DELIVER, Refused, plain, wait_for, number_of, values_of}
 use Rattle.protocol.specs.View.{view}
-use Rattle.protocol.specs.Needs.{Need, ◌orElse◌, ◌else◌, level_lawful, get_ready, to_pass, put_ready, read_ready, store_room, send_room, awaited, ranges, needs}
+use Rattle.protocol.specs.Needs.{Need, ◌or_else◌, ◌else◌, level_lawful, get_ready, to_pass, put_ready, read_ready, store_room, send_room, awaited, ranges, needs}
 use Rattle.protocol.specs.Serve.{Outcome, ◌and◌, serve}
 use Rattle.protocol.specs.Step.{judge, judged, decide, step}
 use Rattle.protocol.specs.Waits.{heard_at, clock_at, ShortOf, WaitsFor, Waits, SameSession, ReadsGoOn, PutsGoOn}

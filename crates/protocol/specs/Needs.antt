@@ -10,13 +10,13 @@ use Rattle.protocol.specs.State.{Mark}
 use Rattle.protocol.specs.Event.{Event, OPEN, CLOSE, CLOCK, GET, PUT, BEGIN, READ, END, BEAT, DELIVER, Refusal, plain, wait_for}
 use Rattle.protocol.specs.View.{View}
 
-infix 80 ◌orElse◌
+infix 80 ◌or_else◌
 infix 80 ◌else◌
 pub record Need : Type 0 where
   pub holds : Bool
   pub refusal : Refusal
 
-abbrev pub ◌orElse◌ : Bool → Refusal → Need
+abbrev pub ◌or_else◌ : Bool → Refusal → Need
 b or_else w = record { holds = b; refusal = w }
 
 abbrev pub ◌else◌ : Bool → ℕ → Need

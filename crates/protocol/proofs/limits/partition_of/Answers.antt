@@ -1,0 +1,18 @@
+use mathlib.Core.Path.{◌≡◌}
+use native.Mathlib.Omega.{arith}
+use Rattle.protocol.proofs.limits.partition_of.Goals as goal
+
+pub returns-then-partitions-eq4 : goal.returns-then-partitions-eq4
+returns-then-partitions-eq4 c =
+    let e : c.args.partitions ≡ 4 = omega arith in
+    rw e
+
+pub returns-then-partitions-ge3 : goal.returns-then-partitions-ge3
+returns-then-partitions-ge3 c =
+    let e : c.args.partitions ≡ 3 = omega arith in
+    rw e
+
+pub returns-then-partitions-ge2 : goal.returns-then-partitions-ge2
+returns-then-partitions-ge2 c =
+    let e : c.args.partitions ≡ 2 = omega arith in
+    rw e
