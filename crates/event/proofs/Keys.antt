@@ -55,6 +55,7 @@ load-zero (suc n) e at h (suc i) l =
     let z : load 1 e (suc at + i) ≡ 0 = load-zero n e (suc at) (omega arith) i (omega arith) in
     let q : suc at + i ≡ at + suc i = omega arith in
     subst (λ j. load 1 e j ≡ 0) q z
+load-zero zero e at h i l = elim l [ ]
 
 pub rest_none : (e : List ℕ) → load 8 e 20 ≡ 0 → rest_zero e ≡ true
 unfolding rest_zero

@@ -18,7 +18,7 @@ mod bounds;
 mod flags;
 
 // The numbers of an event's fields, of whatever code.
-#[derive(Drop)]
+#[derive(Clone, Copy)]
 pub struct Fields {
     pub code: u8,
     pub site: u8,

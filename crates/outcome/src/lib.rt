@@ -14,7 +14,7 @@ pub mod marks;
 pub mod raising;
 
 // What is then carried out. A delivery holds its message, which is numbers; an update's vector and a session stand beside the effect.
-#[derive(Drop)]
+#[derive(Clone, Copy)]
 pub enum Effect {
     Nothing,
     Keep {
@@ -44,7 +44,7 @@ pub enum Effect {
     },
 }
 
-#[derive(Drop)]
+#[derive(Clone, Copy)]
 pub struct Decided {
     pub answer: Answer,
     pub effect: Effect,

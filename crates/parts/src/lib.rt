@@ -10,7 +10,7 @@ pub mod nodes;
 pub mod sessions;
 
 // A session and its page: `snapshot` is the page's vector, and the keys and marks below `count` are in use.
-#[derive(Drop)]
+#[derive(Clone, Copy)]
 pub struct Session {
     pub open: bool,
     pub site: u8,

@@ -9,7 +9,7 @@ ghost use Rattle.protocol.specs.Event.{five, values_of};
 pub mod limits;
 
 // A refusal, or the wait 3, with the source and the stamp that it names.
-#[derive(Drop)]
+#[derive(Clone, Copy)]
 pub struct Refusal {
     pub number: u8,
     pub source: u8,
@@ -17,7 +17,7 @@ pub struct Refusal {
 }
 
 // A reading as an answer shows it.
-#[derive(Drop)]
+#[derive(Clone, Copy)]
 pub struct Reading {
     pub source: u8,
     pub quality: u8,
@@ -25,7 +25,7 @@ pub struct Reading {
     pub stamp: u64,
 }
 
-#[derive(Drop)]
+#[derive(Clone, Copy)]
 pub enum Answer {
     Done,
     Stamped { source: u8, stamp: u64 },
@@ -36,7 +36,7 @@ pub enum Answer {
 
 // R34: number, source, quality, level and stamp. C and Rust see this struct.
 #[repr(C)]
-#[derive(Drop)]
+#[derive(Clone, Copy)]
 pub struct Values {
     pub number: u8,
     pub source: u8,

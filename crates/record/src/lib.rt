@@ -11,7 +11,7 @@ pub mod formed;
 pub mod times;
 
 // A record's numbers, without the vector that it carries.
-#[derive(Drop)]
+#[derive(Clone, Copy)]
 pub struct Numbers {
     pub key: u8,
     pub source: u8,
@@ -21,20 +21,20 @@ pub struct Numbers {
 }
 
 // A stored record.
-#[derive(Drop)]
+#[derive(Clone, Copy)]
 pub struct Record {
     pub numbers: Numbers,
     pub carried: Vector,
 }
 
 // R16: an update or a heartbeat. It holds numbers; an update's vector stands beside it.
-#[derive(Drop)]
+#[derive(Clone, Copy)]
 pub enum Message {
     Update(Numbers),
     Heartbeat { stamp: u64 },
 }
 
-#[derive(Drop)]
+#[derive(Clone, Copy)]
 pub struct Letter {
     pub message: Message,
     pub carried: Vector,

@@ -15,14 +15,14 @@ use record::{Numbers, Record, bytes};
 use vector::Vector;
 
 // What a page asks of a record: its key, and that it carries no more than the page's vector.
-#[derive(Drop)]
+#[derive(Clone, Copy)]
 pub struct Wanted {
     pub key: u8,
     pub snapshot: Vector,
 }
 
 // What a search gives: the newest record counts only if one was found.
-#[derive(Drop)]
+#[derive(Clone, Copy)]
 pub struct Found {
     pub found: bool,
     pub newest: Record,

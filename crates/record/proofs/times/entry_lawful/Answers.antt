@@ -1,4 +1,3 @@
--- `record::times::entry_lawful` meets its contract, by the limit on either side of its test.
 use mathlib.Core.Path.{◌≡◌, refl, sym, ◌∙◌}
 use mathlib.Core.Bool.{Bool, true, false, cond}
 use Prim.Native.Nat.{ℕ}
@@ -11,9 +10,9 @@ use Rattle.protocol.specs.Record.{Setting}
 use Rattle.protocol.specs.Times.{top_of}
 use Rattle.protocol.specs.Meaning.{setting_of}
 use Rattle.record.specs.Ranges.{stamp_lawful}
-use Rattle.record.proofs.times.entry_lawful.Statement.{statement}
-use Rattle.record.proofs.times.entry_lawful.Tie as tie
+use Rattle.record.proofs.times.entry_lawful.Goals as goal
 
+-- `record::times::entry_lawful` meets its contract, by the limit on either side of its test.
 below_one : (x : ℕ) → ltb x 1 ≡ eqb x 0
 below_one x = go (ℕ_discrete x 0)
   where
@@ -26,13 +25,7 @@ unfolding stamp_lawful
 below_limit c true x = refl
 below_limit c false x = below_one x
 
-entry-limit-requires : tie.Need-entry-limit-requires
-entry-limit-requires c κs = search rules
-
-returns : tie.Need-returns
+pub returns : goal.returns
 returns c =
-    let a = c.before.args in
-    rw c.entry-limit.ensures (below_limit (setting_of a.setting) (ltb a.i a.setting.sites) a.x)
-
-pub entry_lawful_spec : {M : Type 1} → statement M
-entry_lawful_spec = tie.close (tie.spec entry-limit-requires returns)
+    let a = c.args in
+    rw c.entry_limit.ensures (below_limit (setting_of a.setting) (ltb a.i a.setting.sites) a.x)

@@ -1,0 +1,7 @@
+use Rattle.event.specs.Event.{code_lawful}
+use borrow.Author.Rules.{rules}
+use Rattle.event.proofs.code_lawful.Goals as goal
+
+pub returns : goal.returns
+unfolding code_lawful
+returns c = rw c.load_u8-code.ensures

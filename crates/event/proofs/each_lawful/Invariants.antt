@@ -1,0 +1,15 @@
+use mathlib.Core.Path.{◌≡◌, sym}
+use Prim.Native.Nat.{◌-◌, ◌≤◌}
+use native.Mathlib.Omega.{arith}
+use Rattle.codec.specs.Below.{all_below}
+use Rattle.codec.proofs.Below.{all_below_none, all_below-step}
+use Rattle.event.specs.Ranges.{field_lawful}
+use borrow.Author.Rules.{rules}
+use Rattle.event.proofs.each_lawful.Given as goal
+
+-- `event::each_lawful` meets its contract: `all` says it of the first f fields.
+abbrev pub invariant-loop-f : goal.invariant-loop-f
+invariant-loop-f l = (l.f ≤ 10) × (l.all ≡ all_below l.f (field_lawful l.used l.zero l.within))
+
+abbrev pub decreases-loop-f : goal.decreases-loop-f
+decreases-loop-f l = 10 - l.f

@@ -1,0 +1,10 @@
+use mir.Facts.{to_z-of_z}
+use Rattle.event.specs.Meaning.{fields_in}
+use borrow.Author.Rules.{rules}
+use Rattle.event.proofs.load_fields.Goals as goal
+
+pub returns : goal.returns
+unfolding fields_in
+returns c =
+    rw
+    (to_z-of_z (record { sfits = c.load_level.type_inv }), c.load_u8.ensures, c.load_u8-2.ensures, c.load_u8-3.ensures, c.load_u8-4.ensures, c.load_u8-5.ensures, c.load_u8-6.ensures, c.load_u8-7.ensures, c.load_u8-8.ensures, c.load_u64.ensures, c.load_level.ensures, c.load_eight.ensures)

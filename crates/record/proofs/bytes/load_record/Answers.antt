@@ -1,0 +1,11 @@
+use borrow.Author.Rules.{rules}
+use mir.ValLaws.{to_z-of_z}
+use mir.Syntax.{w32}
+use Rattle.record.specs.RecordBytes.{record_at}
+use Rattle.record.proofs.bytes.load_record.Goals as goal
+
+pub returns : goal.returns
+unfolding record_at
+returns c =
+    let got = c.load_level-level in
+    rw (to_z-of_z w32 got.result (record { sfits = got.type_inv }), got.ensures, c.load_vector-carried.ensures, c.load_u8-key.ensures, c.load_u8-source.ensures, c.load_u8-quality.ensures, c.load_u64-stamp.ensures)

@@ -1,0 +1,13 @@
+use native.Mathlib.Nat.{add-zero}
+use mathlib.Core.Path.{◌∙◌}
+use borrow.Author.Rules.{rules}
+use mir.ValLaws.{to_z-of_z}
+use mir.Syntax.{w32}
+use Rattle.record.specs.RecordBytes.{put_record}
+use Rattle.record.proofs.bytes.store_fields.Goals as goal
+
+pub returns : goal.returns
+unfolding put_record
+returns c =
+    c.store_vector.ensures
+    ∙ rw (add-zero, c.store_u64.ensures, c.store_level.ensures, c.store_u8-4.ensures, c.store_u8-3.ensures, c.store_u8-2.ensures, c.store_u8.ensures)

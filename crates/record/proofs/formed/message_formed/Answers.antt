@@ -1,0 +1,25 @@
+use mathlib.Core.Path.{sym, ◌∙◌}
+use borrow.Author.Tests.{ne_eqb}
+use Rattle.record.specs.RecordBytes.{message_at}
+use Rattle.record.specs.Ranges.{message_lawful}
+use Rattle.record.specs.RecordFormed.{message_formed}
+use borrow.Author.Rules.{rules}
+use Rattle.record.proofs.formed.message_formed.Goals as goal
+
+pub returns-then-kind-eq1 : goal.returns-then-kind-eq1
+unfolding message_formed message_at
+returns-then-kind-eq1 c =
+    let isUpdate = sym c.load_u8-kind.ensures ∙ c.if-kind-eq1.true in
+    rw isUpdate c.update_formed.ensures
+
+pub returns-then-kind-ne2 : goal.returns-then-kind-ne2
+unfolding message_formed message_at
+returns-then-kind-ne2 c =
+    let kind = c.load_u8-kind.ensures in
+    rw (ne_eqb _ 1 (λ e. c.if-kind-eq1.false (kind ∙ e)), ne_eqb _ 2 (λ e. c.if-kind-ne2.true (kind ∙ e)))
+
+pub returns : goal.returns
+unfolding message_formed message_at message_lawful
+returns c =
+    let isBeat = sym c.load_u8-kind.ensures ∙ c.if-kind-ne2.false in
+    rw (isBeat, c.heartbeat_formed.ensures, c.stamp_lawful.ensures, c.load_u64.ensures)

@@ -1,0 +1,14 @@
+use mathlib.Core.Path.{sym, ◌∙◌}
+use borrow.Author.Tests.{eq-eqb, ne_eqb}
+use Rattle.record.specs.RecordFormed.{record_formed}
+use borrow.Author.Rules.{rules}
+use Rattle.record.proofs.formed.record_formed.Goals as goal
+
+pub returns-then-load_u8-ne1 : goal.returns-then-load_u8-ne1
+unfolding record_formed
+returns-then-load_u8-ne1 c = rw (ne_eqb _ 1 (λ e. c.if-load_u8-ne1.true (c.load_u8.ensures ∙ e)))
+
+pub returns : goal.returns
+unfolding record_formed
+returns c =
+    rw (eq-eqb _ 1 (sym c.load_u8.ensures ∙ c.if-load_u8-ne1.false)) c.record_lawful.ensures

@@ -1,0 +1,22 @@
+use mathlib.Core.Path.{◌≡◌}
+use mathlib.Core.Bool.{true}
+use lib.Dec.{eqb}
+use borrow.Author.Tests.{eq-eqb, ne_eqb}
+use borrow.Author.Rules.{rules}
+use Rattle.protocol.specs.Record.{partition_of}
+use Rattle.protocol.specs.Meaning.{setting_of}
+use Rattle.record.specs.RecordBytes.{record_at}
+use Rattle.record.specs.Ranges.{record_lawful}
+use Rattle.record.proofs.formed.record_lawful.Goals as goal
+
+pub returns-then-partition_of-p : goal.returns-then-partition_of-p
+unfolding record_lawful record_at
+returns-then-partition_of-p c =
+    let part = c.partition_of in
+    rw (← c.load_u8.ensures, ← part.ensures, ne_eqb part.result c.args.p c.if-partition_of-p.true)
+
+pub returns : goal.returns
+unfolding record_lawful record_at
+returns c = rw ((let of-partition'1 : let a = c.args in
+    eqb (partition_of (setting_of a.setting) (record_at a.b.now a.at).id.key) a.p ≡ true = let part = c.partition_of in
+    rw (← c.load_u8.ensures, ← part.ensures) (eq-eqb part.result c.args.p c.if-partition_of-p.false) in of-partition'1)) c.record_in_range.ensures

@@ -1,0 +1,15 @@
+use mathlib.Core.Path.{sym, ◌∙◌}
+use borrow.Author.Tests.{eq-eqb, ne_eqb}
+use Rattle.record.specs.RecordBytes.{record_at}
+use Rattle.record.specs.Ranges.{message_lawful}
+use borrow.Author.Rules.{rules}
+use Rattle.record.proofs.formed.update_formed.Goals as goal
+
+pub returns-then-load_u8-i : goal.returns-then-load_u8-i
+unfolding message_lawful record_at
+returns-then-load_u8-i c = rw (ne_eqb _ c.args.i (λ e. c.if-load_u8-i.true (c.load_u8.ensures ∙ e)))
+
+pub returns : goal.returns
+unfolding message_lawful record_at
+returns c =
+    rw (eq-eqb _ c.args.i (sym c.load_u8.ensures ∙ c.if-load_u8-i.false)) c.record_lawful.ensures

@@ -1,0 +1,19 @@
+use mathlib.Core.Path.{◌≡◌, sym}
+use mathlib.Core.Bool.{true}
+use Prim.Native.Nat.{◌-◌, ◌≤◌}
+use native.Mathlib.Omega.{arith}
+use borrow.Author.Tests.{le-leb, lt-leb}
+use lib.Dec.{leb}
+use Rattle.codec.specs.Below.{all_below}
+use Rattle.codec.proofs.Below.{all_below_none, all_below_more, all_below_fails}
+use Rattle.vector.specs.Entries.{load_vec}
+use Rattle.vector.proofs.Entries.{load_vec-below}
+use borrow.Author.Rules.{rules}
+use Rattle.record.proofs.times.none_above.Given as goal
+
+-- `record::times::none_above` meets its contract: none of the first i entries is above x.
+abbrev pub invariant-loop-i : goal.invariant-loop-i
+invariant-loop-i l = (l.i ≤ 4) × (all_below l.i (λ k. leb (load_vec l.b l.at k) l.x) ≡ true)
+
+abbrev pub decreases-loop-i : goal.decreases-loop-i
+decreases-loop-i l = 4 - l.i

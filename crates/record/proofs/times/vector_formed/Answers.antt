@@ -1,0 +1,5 @@
+use borrow.Author.Rules.{rules}
+use Rattle.record.proofs.times.vector_formed.Goals as goal
+
+pub returns : goal.returns
+returns c = rw (c.vector_lawful.ensures, c.load_vector.ensures)

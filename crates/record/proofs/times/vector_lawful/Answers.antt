@@ -1,0 +1,34 @@
+use mathlib.Core.Path.{◌≡◌, sym}
+use mathlib.Core.Bool.{true, cond}
+use Prim.Native.Nat.{◌-◌, ◌≤◌}
+use native.Mathlib.Omega.{arith}
+use lib.Dec.{ltb, eqb}
+use Rattle.codec.specs.Below.{all_below}
+use Rattle.codec.proofs.Tests.{fails, passes}
+use Rattle.codec.proofs.Below.{all_below_none, all_below_more, all_below_fails}
+use Rattle.vector.specs.Entries.{entry}
+use Rattle.protocol.specs.Meaning.{setting_of}
+use Rattle.record.specs.Ranges.{stamp_lawful, vec_lawful}
+use borrow.Author.Rules.{rules}
+use Rattle.record.proofs.times.vector_lawful.Goals as goal
+
+pub loop-i-init : goal.loop-i-init
+loop-i-init c = (omega arith, all_below_none _)
+
+pub returns-then-not-entry_lawful : goal.returns-then-not-entry_lawful
+unfolding entry vec_lawful
+returns-then-not-entry_lawful c =
+    let no = fails c.entry_lawful.ensures c.if-not-entry_lawful.true in
+    sym (all_below_fails 4 _ c.loop-i.i (omega arith) no)
+
+pub loop-i-preserved : goal.loop-i-preserved
+unfolding entry
+loop-i-preserved c =
+    let yes = passes c.entry_lawful.ensures c.if-not-entry_lawful.false in
+    (omega arith, all_below_more c.loop-i.i _ c.loop-i.invariant.1 yes)
+
+pub returns : goal.returns
+unfolding vec_lawful
+returns c =
+    let e : c.loop-i.i ≡ 4 = omega arith in
+    sym (rw e at c.loop-i.invariant.1)
