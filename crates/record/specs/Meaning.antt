@@ -6,7 +6,6 @@ use Rattle.record.specs.declared.Numbers.{Numbers}
 use Rattle.record.specs.declared.Record.{Record}
 use Rattle.record.specs.declared.Message.{Message}
 use Rattle.record.specs.declared.Letter.{Letter}
-use Rattle.record.specs.declared.Message.TheVariants as Message
 
 abbrev pub record_of : Numbers → Vector → Rec
 record_of r v = record { id = record { key = r.key; source = r.source; stamp = r.stamp }; quality = r.quality; level = r.level; carried = as_vec v }

@@ -1,5 +1,4 @@
 use Rattle.event.specs.Event.{code_lawful}
-use borrow.Author.Rules.{rules}
 use Rattle.event.proofs.code_lawful.Goals as goal
 
 pub returns : goal.returns

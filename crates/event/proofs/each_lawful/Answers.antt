@@ -1,10 +1,7 @@
 use mathlib.Core.Path.{◌≡◌, sym}
-use Prim.Native.Nat.{◌-◌, ◌≤◌}
 use native.Mathlib.Omega.{arith}
-use Rattle.codec.specs.Below.{all_below}
 use Rattle.codec.proofs.Below.{all_below_none, all_below-step}
 use Rattle.event.specs.Ranges.{field_lawful}
-use borrow.Author.Rules.{rules}
 use Rattle.event.proofs.each_lawful.Goals as goal
 
 pub loop-f-init : goal.loop-f-init

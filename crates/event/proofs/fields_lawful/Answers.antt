@@ -2,7 +2,6 @@ use Rattle.event.specs.Fields.{zero_at}
 use Rattle.event.specs.Meaning.{fields_in}
 use Rattle.event.specs.Ranges.{fields_lawful}
 use Rattle.event.proofs.Ranges.{code_row, fields_lawful_lem}
-use borrow.Author.Rules.{rules}
 use Rattle.event.proofs.fields_lawful.Goals as goal
 
 pub overflow_sub-x : goal.overflow_sub-x

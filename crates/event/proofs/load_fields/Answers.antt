@@ -1,6 +1,5 @@
 use mir.Facts.{to_z-of_z}
 use Rattle.event.specs.Meaning.{fields_in}
-use borrow.Author.Rules.{rules}
 use Rattle.event.proofs.load_fields.Goals as goal
 
 pub returns : goal.returns

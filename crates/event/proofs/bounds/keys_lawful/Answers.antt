@@ -1,12 +1,8 @@
 use mathlib.Core.Path.{◌≡◌, sym}
-use Prim.Native.Nat.{◌-◌, ◌≤◌, min}
+use Prim.Native.Nat.{min}
 use native.Mathlib.Omega.{arith}
-use lib.Dec.{ltb}
-use lib.ListN.{get_or}
-use Rattle.codec.specs.Below.{all_below}
 use Rattle.codec.proofs.Below.{all_below_none, all_below-step}
 use Rattle.event.specs.Ranges.{keys_below}
-use borrow.Author.Rules.{rules}
 use Rattle.event.proofs.bounds.keys_lawful.Goals as goal
 
 pub loop-i-init : goal.loop-i-init

@@ -1,12 +1,8 @@
-use mathlib.Core.Path.{◌≡◌, sym}
+use mathlib.Core.Path.{◌≡◌}
 use Prim.Native.Nat.{◌-◌, ◌≤◌, min}
-use native.Mathlib.Omega.{arith}
 use lib.Dec.{ltb}
 use lib.ListN.{get_or}
 use Rattle.codec.specs.Below.{all_below}
-use Rattle.codec.proofs.Below.{all_below_none, all_below-step}
-use Rattle.event.specs.Ranges.{keys_below}
-use borrow.Author.Rules.{rules}
 use Rattle.event.proofs.bounds.keys_lawful.Given as goal
 
 -- `event::bounds::keys_lawful` meets its contract: `all` says it of the first i keys.

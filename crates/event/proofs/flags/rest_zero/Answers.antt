@@ -1,14 +1,8 @@
 use mathlib.Core.Path.{◌≡◌, sym, ◌∙◌}
-use mathlib.Core.Bool.{◌||◌}
-use Prim.Native.Nat.{◌-◌, ◌+◌, ◌≤◌}
 use native.Mathlib.Omega.{arith}
-use lib.Dec.{ltb, eqb}
-use Rattle.codec.specs.Le.{load}
-use Rattle.codec.specs.Below.{all_below}
 use Rattle.codec.proofs.Below.{all_below_none, all_below-step}
 use Rattle.event.specs.Fields.{rest_zero}
 use Rattle.event.proofs.Keys.{rest_none}
-use borrow.Author.Rules.{rules}
 use Rattle.event.proofs.flags.rest_zero.Goals as goal
 
 pub returns-then-load_u64-eq0 : goal.returns-then-load_u64-eq0

@@ -2,7 +2,6 @@ use Rattle.codec.specs.Tabulate.{tabulate}
 use Rattle.codec.proofs.Tabulate.{tab_at}
 use Rattle.event.specs.Fields.{uses}
 use Rattle.event.specs.Ranges.{used_by}
-use borrow.Author.Rules.{rules}
 use Rattle.event.proofs.flags.used.Goals as goal
 
 pub returns : goal.returns

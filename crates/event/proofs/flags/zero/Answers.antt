@@ -1,7 +1,6 @@
 use Rattle.codec.specs.Tabulate.{tabulate}
 use Rattle.event.specs.Fields.{zero_at}
 use Rattle.event.specs.Ranges.{zero_in}
-use borrow.Author.Rules.{rules}
 use Rattle.event.proofs.flags.zero.Goals as goal
 
 pub returns : goal.returns

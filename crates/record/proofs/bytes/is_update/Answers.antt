@@ -2,7 +2,6 @@ use mathlib.Core.Path.{sym, ap}
 use mathlib.Core.List.{[], ◌∷◌}
 use Rattle.protocol.specs.Needs.{front_updates}
 use Rattle.record.specs.Meaning.{message_of}
-use borrow.Author.Rules.{rules}
 use Rattle.record.proofs.bytes.is_update.Goals as goal
 
 pub returns-in-Update : goal.returns-in-Update

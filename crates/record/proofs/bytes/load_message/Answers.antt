@@ -1,6 +1,5 @@
 use mathlib.Core.Path.{sym, ◌∙◌, ap}
 use borrow.Author.Tests.{ne_eqb}
-use borrow.Author.Rules.{rules}
 use Rattle.protocol.specs.Record.{Update}
 use Rattle.record.specs.RecordBytes.{message_at}
 use Rattle.record.proofs.bytes.load_message.Goals as goal

@@ -1,4 +1,3 @@
-use borrow.Author.Rules.{rules}
 use mir.ValLaws.{to_z-of_z}
 use mir.Syntax.{w32}
 use Rattle.record.specs.RecordBytes.{record_at}

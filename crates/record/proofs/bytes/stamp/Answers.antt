@@ -1,5 +1,4 @@
 use mathlib.Core.Path.{sym, ap}
-use borrow.Author.Rules.{rules}
 use Rattle.protocol.specs.Record.{stamp_in}
 use Rattle.record.proofs.Meaning.{message_told}
 use Rattle.record.proofs.bytes.stamp.Goals as goal

@@ -1,5 +1,4 @@
 use mathlib.Core.Path.{◌∙◌}
-use borrow.Author.Rules.{rules}
 use Rattle.vector.proofs.Entries.{entry-zeros}
 use Rattle.record.specs.RecordBytes.{put_message}
 use Rattle.record.proofs.Meaning.{message_told}

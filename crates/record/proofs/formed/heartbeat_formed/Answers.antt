@@ -14,7 +14,6 @@ use native.Mathlib.Decide.{ℕ_discrete}
 use native.Mathlib.Omega.{arith}
 use borrow.Author.Tests.{lt-leb, ne_eqb}
 use lib.Dec.{leb, eqb}
-use borrow.Author.Rules.{rules}
 use Rattle.record.proofs.formed.heartbeat_formed.Goals as goal
 
 -- `record::formed::heartbeat_formed` meets its contract: behind a key of 0 the comparisons with it are those with 0.

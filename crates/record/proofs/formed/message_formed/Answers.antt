@@ -3,7 +3,6 @@ use borrow.Author.Tests.{ne_eqb}
 use Rattle.record.specs.RecordBytes.{message_at}
 use Rattle.record.specs.Ranges.{message_lawful}
 use Rattle.record.specs.RecordFormed.{message_formed}
-use borrow.Author.Rules.{rules}
 use Rattle.record.proofs.formed.message_formed.Goals as goal
 
 pub returns-then-kind-eq1 : goal.returns-then-kind-eq1

@@ -1,7 +1,6 @@
 use mathlib.Core.Path.{sym, ◌∙◌}
 use borrow.Author.Tests.{eq-eqb, ne_eqb}
 use Rattle.record.specs.RecordFormed.{record_formed}
-use borrow.Author.Rules.{rules}
 use Rattle.record.proofs.formed.record_formed.Goals as goal
 
 pub returns-then-load_u8-ne1 : goal.returns-then-load_u8-ne1

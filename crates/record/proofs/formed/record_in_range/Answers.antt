@@ -2,7 +2,6 @@ use mathlib.Core.Path.{sym, ap, ◌∙◌}
 use mir.Syntax.{w32}
 use mir.Facts.{to_z-of_z}
 use borrow.Author.Tests.{lt-ltb, le-ltb}
-use borrow.Author.Rules.{rules}
 use Rattle.codec.proofs.Tests.{fails, passes, every_fails, every_last}
 use Rattle.protocol.specs.Needs.{level_lawful}
 use Rattle.record.specs.RecordBytes.{record_at}

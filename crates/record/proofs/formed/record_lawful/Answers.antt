@@ -2,7 +2,6 @@ use mathlib.Core.Path.{◌≡◌}
 use mathlib.Core.Bool.{true}
 use lib.Dec.{eqb}
 use borrow.Author.Tests.{eq-eqb, ne_eqb}
-use borrow.Author.Rules.{rules}
 use Rattle.protocol.specs.Record.{partition_of}
 use Rattle.protocol.specs.Meaning.{setting_of}
 use Rattle.record.specs.RecordBytes.{record_at}

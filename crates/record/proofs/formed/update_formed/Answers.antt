@@ -2,7 +2,6 @@ use mathlib.Core.Path.{sym, ◌∙◌}
 use borrow.Author.Tests.{eq-eqb, ne_eqb}
 use Rattle.record.specs.RecordBytes.{record_at}
 use Rattle.record.specs.Ranges.{message_lawful}
-use borrow.Author.Rules.{rules}
 use Rattle.record.proofs.formed.update_formed.Goals as goal
 
 pub returns-then-load_u8-i : goal.returns-then-load_u8-i

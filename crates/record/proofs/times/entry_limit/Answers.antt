@@ -1,4 +1,3 @@
-use borrow.Author.Rules.{rules}
 use borrow.Author.Tests.{lt-ltb, le-ltb}
 use Rattle.protocol.specs.Times.{top_of}
 use Rattle.record.proofs.times.entry_limit.Goals as goal

@@ -1,14 +1,9 @@
-use mathlib.Core.Path.{◌≡◌, sym}
+use mathlib.Core.Path.{◌≡◌}
 use mathlib.Core.Bool.{true}
 use Prim.Native.Nat.{◌-◌, ◌≤◌}
-use native.Mathlib.Omega.{arith}
-use borrow.Author.Tests.{le-leb, lt-leb}
 use lib.Dec.{leb}
 use Rattle.codec.specs.Below.{all_below}
-use Rattle.codec.proofs.Below.{all_below_none, all_below_more, all_below_fails}
 use Rattle.vector.specs.Entries.{load_vec}
-use Rattle.vector.proofs.Entries.{load_vec-below}
-use borrow.Author.Rules.{rules}
 use Rattle.record.proofs.times.none_above.Given as goal
 
 -- `record::times::none_above` meets its contract: none of the first i entries is above x.

@@ -1,4 +1,3 @@
-use borrow.Author.Rules.{rules}
 use Rattle.record.proofs.times.vector_formed.Goals as goal
 
 pub returns : goal.returns

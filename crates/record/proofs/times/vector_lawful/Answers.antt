@@ -1,15 +1,9 @@
 use mathlib.Core.Path.{◌≡◌, sym}
-use mathlib.Core.Bool.{true, cond}
-use Prim.Native.Nat.{◌-◌, ◌≤◌}
 use native.Mathlib.Omega.{arith}
-use lib.Dec.{ltb, eqb}
-use Rattle.codec.specs.Below.{all_below}
 use Rattle.codec.proofs.Tests.{fails, passes}
 use Rattle.codec.proofs.Below.{all_below_none, all_below_more, all_below_fails}
 use Rattle.vector.specs.Entries.{entry}
-use Rattle.protocol.specs.Meaning.{setting_of}
-use Rattle.record.specs.Ranges.{stamp_lawful, vec_lawful}
-use borrow.Author.Rules.{rules}
+use Rattle.record.specs.Ranges.{vec_lawful}
 use Rattle.record.proofs.times.vector_lawful.Goals as goal
 
 pub loop-i-init : goal.loop-i-init

@@ -1,0 +1,14 @@
+use native.Mathlib.Omega.{arith}
+use Rattle.reader.proofs.Pieces.{piece_cut, piece_none}
+use borrow.Author.Rules.{rules}
+use Rattle.reader.proofs.piece.Goals as goal
+
+pub returns-then-n-i : goal.returns-then-n-i
+returns-then-n-i c =
+    let a = c.args in
+    piece_none a.events.now a.i (omega arith)
+
+pub returns : goal.returns
+returns c =
+    let a = c.args in
+    piece_cut a.events.now a.i c.at_most_32.result c.at_most_32.ensures
