@@ -1,3 +1,2 @@
 -- The laws of pieces, and what the walks by hand share.
 pub mod Pieces
-pub mod Walks

@@ -1,6 +1,5 @@
 use native.Mathlib.Omega.{arith}
 use Rattle.reader.proofs.Pieces.{piece_cut, piece_none}
-use borrow.Author.Rules.{rules}
 use Rattle.reader.proofs.piece.Goals as goal
 
 pub returns-then-n-i : goal.returns-then-n-i

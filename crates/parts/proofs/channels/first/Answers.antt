@@ -1,0 +1,5 @@
+use mathlib.Core.Path.{◌∙◌}
+use Rattle.parts.proofs.channels.first.Goals as goal
+
+pub returns : goal.returns
+returns c = c.load_message.ensures ∙ rw (c.place.ensures.0, c.front.ensures)

@@ -1,0 +1,6 @@
+use mathlib.Core.Path.{◌∙◌}
+use Rattle.parts.proofs.nodes.add.Goals as goal
+
+pub returns : goal.returns
+returns c =
+    c.store_u8.ensures ∙ rw (c.store_message.ensures, c.held-k.ensures)

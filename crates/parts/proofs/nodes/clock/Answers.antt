@@ -1,0 +1,7 @@
+use borrow.Author.Rules.{rules}
+use Rattle.parts.specs.Node.{clock_in}
+use Rattle.parts.proofs.nodes.clock.Goals as goal
+
+pub returns : goal.returns
+unfolding clock_in
+returns c = search rules

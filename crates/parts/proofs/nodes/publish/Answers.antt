@@ -1,0 +1,16 @@
+use Prim.Native.Nat.{◌+◌, ◌*◌}
+use mathlib.Core.Path.{◌∙◌}
+use native.Mathlib.Omega.{arith}
+use Rattle.record.specs.Meaning.{as_message}
+use Rattle.parts.specs.Node.{published}
+use Rattle.parts.proofs.NodeBytes.{room_before}
+use Rattle.parts.proofs.nodes.publish.Goals as goal
+
+pub store-requires : goal.store-requires
+store-requires c =
+    (omega arith, rw c.store_u64.ensures (room_before c.args.n.now 8 (8 + 8 * c.args.m) _ (omega arith) (as_message c.args.x) c.requires.2))
+
+pub returns : goal.returns
+unfolding published
+returns c =
+    c.store.ensures ∙ rw (c.store_u64.ensures, c.stamp.ensures)

@@ -1,0 +1,9 @@
+use mathlib.Core.Path.{◌∙◌}
+use Rattle.parts.specs.Session.{put_session}
+use Rattle.parts.proofs.sessions.store.Goals as goal
+
+pub returns : goal.returns
+unfolding put_session
+returns c =
+    c.store_marks.ensures
+    ∙ rw (c.store_vector-3.ensures, c.store_vector-2.ensures, c.store_vector.ensures, c.store_head.ensures)
