@@ -1,0 +1,15 @@
+use mathlib.Core.Path.{◌≡◌}
+use Prim.Native.Nat.{◌-◌, ◌≤◌}
+use Rattle.protocol.specs.Record.{Setting}
+use Rattle.protocol.specs.Search.{newest_place}
+use Rattle.record.specs.RecordBytes.{record_at}
+use Rattle.parts.specs.Node.{slot_at}
+use Rattle.search.specs.Found.{fits}
+use Rattle.search.proofs.newest_place.Given as goal
+
+-- `search::newest_place` meets its contract: `best` is the place for the first k records.
+abbrev pub invariant-loop-k : goal.invariant-loop-k
+invariant-loop-k l = (l.k ≤ l.held) × ((c : Setting) → l.best ≡ newest_place c (fits l.w) (λ i. record_at l.n (slot_at i)) l.k)
+
+abbrev pub decreases-loop-k : goal.decreases-loop-k
+decreases-loop-k l = l.held - l.k
