@@ -9,7 +9,6 @@ use Rattle.parts.specs.Meaning.{as_session}
 use Rattle.parts.specs.declared.Session.{Session}
 use Rattle.outcome.specs.declared.Effect.{Effect}
 use Rattle.outcome.specs.declared.Decided.{Decided}
-use Rattle.outcome.specs.declared.Effect.TheVariants as Effect
 
 abbrev pub changes_of : Effect → Vector → Session → List Change
 changes_of Effect.Nothing v x = []

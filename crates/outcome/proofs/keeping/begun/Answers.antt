@@ -1,0 +1,8 @@
+use Rattle.protocol.specs.Serve.{begun}
+use Rattle.outcome.proofs.Backward.{marks-begun}
+use Rattle.outcome.proofs.keeping.begun.Goals as goal
+
+pub returns : goal.returns
+unfolding begun
+returns c =
+    rw (c.larger_of-y.ensures, c.zero-zero.ensures, marks-begun c.args.keys c.args.count c.requires)

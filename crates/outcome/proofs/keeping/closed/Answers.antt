@@ -1,0 +1,7 @@
+use Rattle.codec.specs.Tabulate.{tabulate}
+use Rattle.protocol.specs.State.{no_page, closed}
+use Rattle.outcome.proofs.keeping.closed.Goals as goal
+
+pub returns : goal.returns
+unfolding closed no_page tabulate
+returns c = rw c.zero-zero.ensures

@@ -1,0 +1,6 @@
+use Rattle.protocol.specs.Serve.{read_on}
+use Rattle.outcome.proofs.keeping.read_on.Goals as goal
+
+pub returns : goal.returns
+unfolding read_on
+returns c = rw (c.raised_by-y.ensures, c.read-read.ensures)

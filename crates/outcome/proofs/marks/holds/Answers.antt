@@ -1,0 +1,16 @@
+use mathlib.Core.Path.{◌≡◌}
+use native.Mathlib.Omega.{arith}
+use Rattle.outcome.proofs.Backward.{from_none, from_back}
+use Rattle.outcome.proofs.marks.holds.Goals as goal
+
+pub loop-i-init : goal.loop-i-init
+loop-i-init c = (omega arith, omega arith, rw from_none)
+
+pub loop-i-preserved : goal.loop-i-preserved
+loop-i-preserved c =
+    (omega arith, omega arith, rw (c.loop-i.invariant.2, from_back _ _ c.loop-i.i (omega arith) c.loop-i.invariant.1))
+
+pub returns : goal.returns
+returns c =
+    let e : c.loop-i.i ≡ c.args.from = omega arith in
+    rw e at c.loop-i.invariant.2

@@ -1,0 +1,7 @@
+use mathlib.Core.Path.{ap}
+use Rattle.protocol.specs.State.{with_vec}
+use Rattle.parts.specs.Meaning.{as_session}
+use Rattle.outcome.proofs.raising.raised.Goals as goal
+
+pub returns : goal.returns
+returns c = ap (with_vec (as_session c.args.x)) c.raised-y.ensures

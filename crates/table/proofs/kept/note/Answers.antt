@@ -1,0 +1,30 @@
+use mathlib.Core.Path.{◌≡◌, ap, ◌∙◌}
+use native.Mathlib.Omega.{arith}
+use Rattle.codec.specs.Le.{put}
+use Rattle.parts.specs.Node.{held_in}
+use Rattle.table.specs.Parts.{site_of, node_of}
+use Rattle.table.specs.Decode.{setting_in}
+use Rattle.table.specs.Noted.{place_noted, noted}
+use Rattle.table.proofs.Lent.{kept_lent, kept_back}
+use borrow.Author.Rules.{rules}
+use Rattle.table.proofs.kept.note.Goals as goal
+
+pub overflow_sub-last : goal.overflow_sub-last
+overflow_sub-last c =
+    let a = c.args in
+    omega (arith, c.held.ensures, ap held_in c.node-n.ensures.0, c.requires.4)
+
+pub later-newest-requires : goal.later-newest-requires
+later-newest-requires c =
+    (search rules, omega (arith, c.held.ensures, ap held_in c.node-n.ensures.0, c.requires.5), omega (arith, c.place-best.ensures, c.requires.6))
+
+pub returns : goal.returns
+unfolding noted place_noted
+returns c =
+    let a = c.args in
+    let t = a.t.now in
+    let n = node_of (site_of t a.m) a.p in
+    let held : c.held.result ≡ held_in n = c.held.ensures ∙ ap held_in c.node-n.ensures.0 in
+    let lent = kept_lent t a.m a.p _ c.kept_at-off.ensures.0 c.requires.1 c.requires.2 in
+    kept_back t a.m a.p _ c.kept_at-off.ensures.0 _ (place_noted (setting_in t) n a.k)
+    (c.store_u8.ensures ∙ ap (put 1 _ a.k) (c.later-newest.ensures.0 (setting_in t) ∙ rw (c.node-n.ensures.0, held, c.place-best.ensures, lent)))

@@ -1,0 +1,20 @@
+use mathlib.Core.Path.{sym, ap, subst, ◌∙◌}
+use Rattle.record.proofs.Meaning.{message_told}
+use Rattle.table.specs.Noted.{message_noted, Notable}
+use Rattle.table.proofs.kept.note_message.Goals as goal
+
+pub note-requires : goal.note-requires
+note-requires c =
+    let a = c.args in
+    let asked = subst (λ y. Notable a.m a.p y a.t.now) (message_told a.x _ c.in-Update.is) c.requires.3 in
+    (c.requires.0, c.requires.1, c.requires.2, asked.0, asked.1, asked.2, asked.3)
+
+pub returns-in-Update : goal.returns-in-Update
+unfolding message_noted
+returns-in-Update c =
+    c.note.ensures ∙ rw (message_told c.args.x _ c.in-Update.is)
+
+pub returns-in-Heartbeat : goal.returns-in-Heartbeat
+unfolding message_noted
+returns-in-Heartbeat c =
+    sym (ap (λ y. message_noted c.args.m c.args.p y c.args.t.now) (message_told c.args.x _ c.in-Heartbeat.is))

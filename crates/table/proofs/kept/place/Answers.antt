@@ -1,0 +1,5 @@
+use mathlib.Core.Path.{◌∙◌}
+use Rattle.table.proofs.kept.place.Goals as goal
+
+pub returns : goal.returns
+returns c = c.load_u8.ensures ∙ rw c.kept.ensures.0

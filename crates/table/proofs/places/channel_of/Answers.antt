@@ -1,0 +1,11 @@
+use mathlib.Core.Path.{sym, ap, ◌∙◌}
+use lib.ListN.{length}
+use Rattle.table.proofs.Lent.{channel_lent}
+use Rattle.table.proofs.Parts.{length_channel}
+use Rattle.table.proofs.places.channel_of.Goals as goal
+
+pub returns : goal.returns
+returns c =
+    let a = c.args in
+    let e = sym (channel_lent a.site.now a.p a.d _ c.channel_at-off.ensures.0 c.requires.1 c.requires.2) in
+    (e, ap length e ∙ length_channel a.site.now a.p a.d c.requires.0 c.requires.1 c.requires.2)

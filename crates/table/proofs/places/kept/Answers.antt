@@ -1,0 +1,11 @@
+use mathlib.Core.Path.{sym, ap, ◌∙◌}
+use lib.ListN.{length}
+use Rattle.table.proofs.Lent.{kept_lent}
+use Rattle.table.proofs.KeptPlaces.{length-kept}
+use Rattle.table.proofs.places.kept.Goals as goal
+
+pub returns : goal.returns
+returns c =
+    let a = c.args in
+    let e = sym (kept_lent a.t.now a.m a.p _ c.kept_at-off.ensures.0 c.requires.1 c.requires.2) in
+    (e, ap length e ∙ length-kept a.t.now a.m a.p c.requires.0 c.requires.1 c.requires.2)

@@ -1,0 +1,11 @@
+use mathlib.Core.Path.{sym, ap, ◌∙◌}
+use lib.ListN.{length}
+use Rattle.table.proofs.Lent.{node_lent}
+use Rattle.table.proofs.Parts.{length_node}
+use Rattle.table.proofs.places.node_of.Goals as goal
+
+pub returns : goal.returns
+returns c =
+    let a = c.args in
+    let e = sym (node_lent a.site.now a.p _ c.node_at-off.ensures.0 c.requires.1) in
+    (e, ap length e ∙ length_node a.site.now a.p c.requires.0 c.requires.1)

@@ -1,0 +1,11 @@
+use mathlib.Core.Path.{sym, ap, ◌∙◌}
+use lib.ListN.{length}
+use Rattle.table.proofs.Lent.{site_lent}
+use Rattle.table.proofs.Parts.{length-site}
+use Rattle.table.proofs.places.site.Goals as goal
+
+pub returns : goal.returns
+returns c =
+    let a = c.args in
+    let e = sym (site_lent a.t.now a.m _ c.site_at-off.ensures.0 c.requires.1) in
+    (e, ap length e ∙ length-site a.t.now a.m c.requires.0 c.requires.1)

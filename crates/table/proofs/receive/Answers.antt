@@ -1,0 +1,53 @@
+use mathlib.Core.Path.{◌≡◌, sym, ap, subst, ◌∙◌}
+use native.Mathlib.Omega.{arith}
+use lib.ListN.{length}
+use Rattle.protocol.specs.Change.{Receive}
+use Rattle.record.specs.Meaning.{as_message}
+use Rattle.table.specs.Parts.{Long}
+use Rattle.table.specs.Put.{put_core}
+use Rattle.table.specs.Noted.{message_noted, Notable}
+use Rattle.table.proofs.Beside.{site-received}
+use Rattle.table.proofs.Decode.{length-put_core}
+use Rattle.table.proofs.Follows.{receive-noted, receive_notable}
+use Rattle.table.proofs.receive.Goals as goal
+
+-- `table::receive` meets its contract: the two sites' parts are apart, so the second change finds its channel as it was; the kept places follow.
+pub place_of-d-requires : goal.place_of-d-requires
+place_of-d-requires c = let fit = c.requires in (fit.source, fit.site, fit.other)
+
+pub take_in-requires : goal.take_in-requires
+take_in-requires c =
+    let fit = c.requires in
+    (omega (arith, fit.whole), fit.source, fit.site, fit.partition, fit.room)
+
+pub take_off-requires : goal.take_off-requires
+take_off-requires c =
+    let a = c.args in
+    let fit = c.requires in
+    let long : Long a.t.now = omega (arith, fit.whole) in
+    let same = site-received a.i (as_message a.x) a.t.now a.m a.p long fit.site fit.partition fit.other in
+    (omega (arith, fit.whole), fit.source, fit.partition, omega arith, rw (c.take_in.ensures, same, c.place_of-d.ensures.0) fit.waits)
+
+pub note_message-requires : goal.note_message-requires
+unfolding put_core
+note_message-requires c =
+    let a = c.args in
+    let fit = c.requires in
+    let x = as_message a.x in
+    let long : Long a.t.now = omega (arith, fit.whole) in
+    let same = ap length ((let taken'1 : let a'1 = c.args in
+    c.take_off.new.t ≡ put_core (Receive a'1.i a'1.m a'1.p (as_message a'1.x)) a'1.t.now = c.take_off.ensures ∙ rw (c.take_in.ensures, c.place_of-d.ensures.0) in taken'1)) ∙ length-put_core (Receive a.i a.m a.p x) a.t.now long fit in (
+      omega (arith, same, fit.whole),
+      fit.site,
+      fit.partition,
+      subst (Notable a.m a.p x) (sym ((let taken'2 : let a'2 = c.args in
+          c.take_off.new.t ≡ put_core (Receive a'2.i a'2.m a'2.p (as_message a'2.x)) a'2.t.now = c.take_off.ensures ∙ rw (c.take_in.ensures, c.place_of-d.ensures.0) in taken'2))) (receive_notable a.i a.m a.p x a.t.now fit),
+    )
+
+pub returns : goal.returns
+unfolding put_core
+returns c =
+    let a = c.args in
+    let x = as_message a.x in
+    c.note_message.ensures ∙ ap (message_noted a.m a.p x) ((let taken'1 : let a'1 = c.args in
+    c.take_off.new.t ≡ put_core (Receive a'1.i a'1.m a'1.p (as_message a'1.x)) a'1.t.now = c.take_off.ensures ∙ rw (c.take_in.ensures, c.place_of-d.ensures.0) in taken'1)) ∙ receive-noted a.i a.m a.p x a.t.now c.requires

@@ -1,0 +1,11 @@
+use Rattle.parts.specs.Meaning.{as_session}
+use Rattle.parts.specs.Session.{put_session}
+use Rattle.table.specs.Put.{put_core, kept_after, put_change}
+use Rattle.table.proofs.Lent.{session_back}
+use Rattle.table.proofs.set_session.Goals as goal
+
+pub returns : goal.returns
+unfolding put_change kept_after put_core
+returns c =
+    let a = c.args in
+    session_back a.t.now a.s _ c.session_at-off.ensures.0 _ (put_session (as_session a.x)) c.store.ensures

@@ -1,0 +1,16 @@
+use native.Mathlib.Omega.{arith}
+use borrow.Author.Rules.{rules}
+use Rattle.parts.specs.Channel.{popped}
+use Rattle.table.specs.Parts.{on_channel}
+use Rattle.table.proofs.Lent.{site_lent, site_back}
+use Rattle.table.proofs.take_off.Goals as goal
+
+pub pop-requires : goal.pop-requires
+pop-requires c =
+    let a = c.args in
+    (search rules, omega arith, omega arith, rw (← site_lent a.t.now a.i _ c.site_at-off.ensures.0 (omega arith)) c.requires.4)
+
+pub returns : goal.returns
+returns c =
+    let a = c.args in
+    site_back a.t.now a.i _ c.site_at-off.ensures.0 _ (on_channel a.p a.d popped) c.pop.ensures
