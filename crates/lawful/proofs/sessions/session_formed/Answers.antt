@@ -1,0 +1,43 @@
+use mathlib.Core.Path.{sym, ◌∙◌}
+use borrow.Author.Tests.{lt-ltb, le-ltb}
+use Rattle.codec.proofs.Tests.{fails, passes, every_fails, every_last}
+use Rattle.parts.specs.Session.{session_in}
+use Rattle.lawful.specs.LawfulValues.{session_lawful}
+use Rattle.lawful.specs.WellFormed.{session_formed}
+use Rattle.lawful.proofs.sessions.session_formed.Goals as goal
+
+pub returns-then-load_u8-ge2 : goal.returns-then-load_u8-ge2
+unfolding session_formed
+returns-then-load_u8-ge2 c = sym (every_fails _ 0 (le-ltb _ 2 (rw c.load_u8.ensures at c.if-load_u8-ge2.true)))
+
+pub returns-then-load_u8-ge2-2 : goal.returns-then-load_u8-ge2-2
+unfolding session_formed
+returns-then-load_u8-ge2-2 c = sym (every_fails _ 1 (le-ltb _ 2 (rw c.load_u8-2.ensures at c.if-load_u8-ge2-2.true)))
+
+pub returns-then-not-site_lawful : goal.returns-then-not-site_lawful
+unfolding session_formed session_lawful session_in
+returns-then-not-site_lawful c =
+    let no = fails c.site_lawful.ensures c.if-not-site_lawful.true in
+    sym (every_fails _ 3 (every_fails _ 0 no))
+
+pub returns-then-not-flags_formed : goal.returns-then-not-flags_formed
+unfolding session_formed
+returns-then-not-flags_formed c =
+    let no = fails c.flags_formed.ensures c.if-not-flags_formed.true in
+    sym (every_fails _ 2 no)
+
+pub returns-then-not-vector_formed : goal.returns-then-not-vector_formed
+unfolding session_formed session_lawful session_in
+returns-then-not-vector_formed c =
+    let no = fails c.vector_formed.ensures c.if-not-vector_formed.true in
+    sym (every_fails _ 3 (every_fails _ 1 no))
+
+pub returns : goal.returns
+unfolding session_formed session_lawful session_in
+returns c =
+    let yesOpen = lt-ltb _ 2 (rw c.load_u8.ensures at c.if-load_u8-ge2.false) in
+    let yesPaged = lt-ltb _ 2 (rw c.load_u8-2.ensures at c.if-load_u8-ge2-2.false) in
+    let yesSite = passes c.site_lawful.ensures c.if-not-site_lawful.false in
+    let yesMarks = passes c.flags_formed.ensures c.if-not-flags_formed.false in
+    let yesVec = passes c.vector_formed.ensures c.if-not-vector_formed.false in
+    c.page_lawful.ensures ∙ sym (every_last _ (yesOpen, (yesPaged, (yesMarks, tt))) ∙ every_last _ (yesSite, (yesVec, tt)))

@@ -1,0 +1,32 @@
+use mathlib.Core.Path.{sym, subst, ◌∙◌}
+use lib.Dec.{T}
+use Rattle.codec.proofs.Tests.{fails, passes, every_fails, every-joined}
+use Rattle.lawful.specs.WellFormed.{well_formed}
+use Rattle.lawful.proofs.Facts.{setting_facts}
+use borrow.Author.Rules.{rules}
+use Rattle.lawful.proofs.well_formed.Goals as goal
+
+pub returns-then-not-setting_lawful : goal.returns-then-not-setting_lawful
+unfolding well_formed
+returns-then-not-setting_lawful c =
+    let no = fails c.setting_lawful.ensures c.if-not-setting_lawful.true in
+    rw (← c.setting-setting.ensures) (sym (every_fails _ 0 no))
+
+pub returns-then-not-sessions_formed : goal.returns-then-not-sessions_formed
+unfolding well_formed
+returns-then-not-sessions_formed c =
+    let no = fails c.sessions_formed.ensures c.if-not-sessions_formed.true in
+    rw (← c.setting-setting.ensures) (sym (every_fails _ 1 no))
+
+pub sites_formed-requires : goal.sites_formed-requires
+sites_formed-requires c =
+    let yes = passes c.setting_lawful.ensures c.if-not-setting_lawful.false in
+    (search rules, (setting_facts _ (subst T (sym yes) tt)).2)
+
+pub returns : goal.returns
+unfolding well_formed
+returns c =
+    let yes = passes c.setting_lawful.ensures c.if-not-setting_lawful.false in
+    let same = c.setting-setting.ensures in
+    let yesSessions = passes c.sessions_formed.ensures c.if-not-sessions_formed.false in
+    rw (← same, c.sites_formed.ensures) (sym (every-joined _ ∙ rw (yes, yesSessions)))
