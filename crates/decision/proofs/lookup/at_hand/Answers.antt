@@ -1,0 +1,61 @@
+use Prim.Native.Nat.{ℕ, ◌-◌, ◌≤◌, ◌<◌}
+use native.Mathlib.Omega.{arith}
+use mathlib.Core.Path.{sym, ap, subst, ◌∙◌}
+use mathlib.Core.List.{List}
+use lib.ListN.{get_or}
+use borrow.Author.Rules.{rules}
+use Rattle.codec.proofs.Le.{load_byte}
+use Rattle.protocol.specs.Record.{Rec, of_key}
+use Rattle.protocol.specs.Search.{placed}
+use Rattle.protocol.proofs.Shelf.{found-newest}
+use Rattle.protocol.proofs.Places.{newest_is_placed}
+use Rattle.record.specs.RecordBytes.{record_at}
+use Rattle.parts.specs.Node.{slot_at, held_in, store_in}
+use Rattle.search.specs.Kept.{place_in}
+use Rattle.search.proofs.Kept.{place_held, places_at}
+use Rattle.table.specs.Parts.{site_of, node_of}
+use Rattle.table.specs.Decode.{setting_in}
+use Rattle.lawful.proofs.Facts.{kept}
+use Rattle.decision.proofs.Formed.{node_held, node_source}
+use Rattle.decision.proofs.lookup.at_hand.Goals as goal
+
+pub found_at-requires : goal.found_at-requires
+found_at-requires c =
+    let a = c.args in
+    let t = a.t.now in
+    let here = sym c.node.ensures.0 in
+    let most = node_held t c.requires.1 a.m a.p c.requires.2 c.requires.3 in (
+      search rules,
+      omega (
+        arith,
+        (let place_small'1 : c.place-place.result ≤ held_in (node_of (site_of c.args.t.now c.args.m) c.args.p) = rw (c.place-place.ensures
+            ∙ load_byte _ c.args.key
+            ∙ ap (λ (b : List ℕ). get_or b c.args.key 0) (kept c.args.t.now c.requires.0 c.requires.1 c.args.m c.args.p c.requires.2 c.requires.3)
+            ∙ places_at (setting_in c.args.t.now) (node_of (site_of c.args.t.now c.args.m) c.args.p) c.args.key c.requires.4) (place_held (setting_in c.args.t.now) (node_of (site_of c.args.t.now c.args.m) c.args.p) c.args.key) in place_small'1),
+        most,
+      ),
+      λ h. subst (λ n. (record_at n (slot_at (c.place-place.result - 1))).id.source < 4) here (node_source t c.requires.1 a.m a.p c.requires.2 c.requires.3 (c.place-place.result - 1) (omega (
+        arith,
+        (let place_small'3 : c.place-place.result ≤ held_in (node_of (site_of c.args.t.now c.args.m) c.args.p) = rw (c.place-place.ensures
+            ∙ load_byte _ c.args.key
+            ∙ ap (λ (b : List ℕ). get_or b c.args.key 0) (kept c.args.t.now c.requires.0 c.requires.1 c.args.m c.args.p c.requires.2 c.requires.3)
+            ∙ places_at (setting_in c.args.t.now) (node_of (site_of c.args.t.now c.args.m) c.args.p) c.args.key c.requires.4) (place_held (setting_in c.args.t.now) (node_of (site_of c.args.t.now c.args.m) c.args.p) c.args.key) in place_small'3),
+      ))),
+    )
+
+pub returns : goal.returns
+unfolding store_in place_in
+returns c =
+    let a = c.args in
+    let t = a.t.now in
+    let n = node_of (site_of t a.m) a.p in
+    let f : ℕ → Rec = λ i. record_at n (slot_at i) in (
+      c.found_at.ensures.0
+          ∙ ap (λ (b : List ℕ). placed (λ i. record_at b (slot_at i)) c.place-place.result) c.node.ensures.0
+          ∙ ap (placed f) (c.place-place.ensures
+          ∙ load_byte _ c.args.key
+          ∙ ap (λ (b : List ℕ). get_or b c.args.key 0) (kept c.args.t.now c.requires.0 c.requires.1 c.args.m c.args.p c.requires.2 c.requires.3)
+          ∙ places_at (setting_in c.args.t.now) (node_of (site_of c.args.t.now c.args.m) c.args.p) c.args.key c.requires.4)
+          ∙ sym (found-newest (setting_in t) (of_key a.key) (store_in n) ∙ newest_is_placed (setting_in t) (of_key a.key) f (held_in n)),
+      c.found_at.ensures.1,
+    )

@@ -1,0 +1,24 @@
+use Prim.Native.Nat.{ℕ, ◌≤◌, ◌<◌}
+use mathlib.Core.Path.{sym, subst}
+use Rattle.protocol.proofs.Shelf.{found-newest}
+use Rattle.record.specs.RecordBytes.{record_at}
+use Rattle.parts.specs.Node.{slot_at, held_in}
+use Rattle.table.specs.Decode.{setting_in}
+use Rattle.decision.proofs.Formed.{node_held, node_source}
+use borrow.Author.Rules.{rules}
+use Rattle.decision.proofs.lookup.newest.Goals as goal
+
+pub newest-requires : goal.newest-requires
+newest-requires c =
+    let a = c.args in
+    let t = a.t.now in
+    let here = sym c.node.ensures.0 in (
+      search rules,
+      subst (λ n. held_in n ≤ 32) here (node_held t c.requires.1 a.m a.p c.requires.2 c.requires.3),
+      subst (λ n. (k : ℕ) → k < held_in n → (record_at n (slot_at k)).id.source < 4) here (node_source t c.requires.1 a.m a.p c.requires.2 c.requires.3),
+    )
+
+pub returns : goal.returns
+returns c =
+    let t = c.args.t.now in
+    (rw (found-newest, sym c.node.ensures.0) (c.newest.ensures.0 (setting_in t)), c.newest.ensures.1)

@@ -1,0 +1,28 @@
+use Prim.Native.Nat.{◌≤◌}
+use native.Mathlib.Omega.{arith}
+use mathlib.Core.Path.{sym, ap, subst, ◌∙◌}
+use Rattle.codec.specs.Le.{load}
+use Rattle.parts.specs.Session.{session_in}
+use Rattle.table.specs.Parts.{session_of}
+use Rattle.lawful.proofs.Facts.{formed}
+use Rattle.decision.proofs.Formed.{session-marks}
+use Rattle.decision.proofs.Told.{count_told, here_told}
+use borrow.Author.Rules.{rules}
+use Rattle.decision.proofs.lookup.session.Goals as goal
+
+pub load-requires : goal.load-requires
+load-requires c =
+    let a = c.args in
+    (search rules, subst (λ b. load 1 b 3 ≤ 8) (sym c.session.ensures.0) (session-marks a.t.now c.requires.1 a.s c.requires.2))
+
+pub returns : goal.returns
+returns c =
+    let a = c.args in
+    let t = a.t.now in
+    let told = c.load.ensures ∙ ap session_in c.session.ensures.0 in
+    let there = here_told c.load.result t c.requires.1 a.s c.requires.2 told in (
+      told,
+      subst (λ n. n ≤ 8) (sym (count_told c.load.result (session_of t a.s) told)) (session-marks t c.requires.1 a.s c.requires.2),
+      λ o. let here = there o in let F = formed t c.requires.1 in omega (arith, F.sites),
+      there,
+    )

@@ -1,0 +1,4 @@
+use Rattle.decision.proofs.writes.has_slot.Goals as goal
+
+pub returns : goal.returns
+returns c = rw (c.held.ensures, c.node.ensures.0)

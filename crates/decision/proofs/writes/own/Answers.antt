@@ -1,0 +1,7 @@
+use mathlib.Core.Path.{ap}
+use Rattle.vector.specs.Entries.{entry}
+use Rattle.decision.proofs.writes.own.Goals as goal
+
+pub returns : goal.returns
+unfolding entry
+returns c = ap (λ v. v c.args.m) c.heard.ensures
