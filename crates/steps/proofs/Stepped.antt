@@ -21,7 +21,6 @@ use Rattle.event.specs.Fields.{unused_zero}
 use Rattle.table.specs.Decode.{setting_in, decode}
 use Rattle.table.specs.Put.{put_changes}
 use Rattle.table.specs.Fits.{FitsAll}
-use Rattle.lawful.proofs.Facts.{formed}
 use Rattle.lawful.proofs.Fits.{step_fits}
 use Rattle.lawful.proofs.Steps.{Sound}
 use Rattle.outcome.specs.Decided.{changes_of, outcome_of}
