@@ -1,0 +1,25 @@
+use mathlib.Core.Path.{◌≡◌, sym, ap, ◌∙◌}
+use mathlib.Core.Bool.{◌&&◌}
+use borrow.Author.Rules.{rules}
+use Rattle.codec.proofs.Tests.{fails, passes}
+use Rattle.protocol.specs.declared.Answer.TheVariants.{Done}
+use Rattle.lawful.specs.LawfulValues.{setting_lawful}
+use Rattle.lawful.proofs.Facts.{setting_tests}
+use Rattle.steps.specs.Step.{gives}
+use Rattle.archive.proofs.Calls.{setup_23, setup_11, setup_done}
+use Rattle.archive.proofs.setup.Goals as goal
+
+pub returns-then-table-ne-TABLE : goal.returns-then-table-ne-TABLE
+returns-then-table-ne-TABLE c =
+    let a = c.args in
+    ap (λ r. gives r a.table.now) c.refused.ensures ∙ sym (setup_23 a.table.now a.sites a.partitions c.if-table-ne-TABLE.true)
+
+pub returns-then-not-number_lawful : goal.returns-then-not-number_lawful
+returns-then-not-number_lawful c =
+    let a = c.args in
+    ap (λ r. gives r a.table.now) c.refused-then-not-number_lawful.ensures ∙ sym (setup_11 a.table.now a.sites a.partitions (search rules) (fails (let lawful_is'1 : (c.number_lawful.result && c.number_lawful-2.result) ≡ setting_lawful (record { sites = c.args.sites; partitions = c.args.partitions }) = rw (c.number_lawful.ensures, c.number_lawful-2.ensures) (setting_tests _ _) in lawful_is'1) c.if-not-number_lawful.true))
+
+pub returns : goal.returns
+returns c =
+    let a = c.args in
+    ap (λ t. gives Done t) (c.store_le-2.ensures ∙ rw (c.store_le.ensures, c.clear.ensures)) ∙ sym (setup_done a.table.now a.sites a.partitions (search rules) (passes (let lawful_is'1 : (c.number_lawful.result && c.number_lawful-2.result) ≡ setting_lawful (record { sites = c.args.sites; partitions = c.args.partitions }) = rw (c.number_lawful.ensures, c.number_lawful-2.ensures) (setting_tests _ _) in lawful_is'1) c.if-not-number_lawful.false))
