@@ -6,7 +6,10 @@
 
 ghost use Rattle.std.specs.Prelude.{◌+◌, ◌*◌, ◌≤◌, length};
 
-use libc::{STDIN_FILENO, STDOUT_FILENO};
+// The numbers of standard input and standard output.
+const STDIN: i32 = 0;
+
+const STDOUT: i32 = 1;
 
 // One more byte.
 fn put(out: &mut [u8; 65536], at: usize, b: u8) -> usize {
@@ -124,7 +127,7 @@ fn put_line(
 
 fn flush(out: &[u8], at: usize) {
     if at <= out.len() {
-        io::write_all(STDOUT_FILENO, &out[0..at]);
+        io::write_all(STDOUT, &out[0..at]);
     }
 }
 
@@ -169,7 +172,7 @@ fn cut(left: &[u8], out: &mut [u8; 65536]) {
 fn run(buf: &mut [u8], table: &mut [u8; 57344], answers: &mut [u8; 32768], out: &mut [u8; 65536]) {
     let mut place: u64 = 0;
     while place <= 18446744073709549567 {
-        let n = io::read_full(STDIN_FILENO, buf);
+        let n = io::read_full(STDIN, buf);
         let events = &buf[0..n];
         let whole = n - n % 32;
         let k = archive::run(table, &events[0..whole], answers);

@@ -1,4 +1,3 @@
--- `bench::size`: no cast and no difference leaves its range, by cases on the sign.
 use Prim.Native.Nat.{ℕ}
 use mathlib.Core.Path.{◌≡◌}
 use mathlib.Core.Bool.{true, false}
@@ -10,9 +9,9 @@ use lib.Signed.{lt_z, non_neg}
 use mir.Syntax.{w32, w64}
 use mir.Val.{to_z, of_z, Fits, SFits}
 use mir.ValLaws.{to_z-of_z}
-use Rattle.bench.proofs.size.Statement.{statement}
-use Rattle.bench.proofs.size.Tie as tie
+use Rattle.bench.proofs.size.Goals as goal
 
+-- `bench::size`: no cast and no difference leaves its range, by cases on the sign.
 wide : {x : ℤ} → SFits w32 x → SFits w64 x
 wide f = record { sfits = omega (arith, f.sfits) }
 
@@ -32,33 +31,30 @@ above : (x : ℤ) → SFits w32 x → lt_z x (pos 0) ≡ false → Holds (non_ne
 above (pos n) f h = (tt, record { fits = omega (arith, f.sfits) })
 above (negsuc n) f h = absurd (let z : ◌≡◌ {A = ℕ} 0 1 = cc in omega arith)
 
-cast-w : tie.Need-overflow-cast-w
-cast-w c = rw (to_z-of_z w32 c.args.x c.ranges.x) (wide c.ranges.x)
+pub overflow_cast-w : goal.overflow_cast-w
+overflow_cast-w c = rw (to_z-of_z w32 c.args.x c.ranges.x) (wide c.ranges.x)
 
-sub-result : tie.Need-overflow-sub-result
-sub-result c =
-    let x = c.before.args.x in
-    let f = c.before.ranges.x in
-    rw (plain x f) (minus x f (rw (plain x f) at c.if1.true))
+pub overflow_sub-result : goal.overflow_sub-result
+overflow_sub-result c =
+    let x = c.args.x in
+    let f = c.ranges.x in
+    rw (plain x f) (minus x f (rw (plain x f) at c.if-w-lt0.true))
 
-cast-result : tie.Need-overflow-cast-result
-cast-result c =
-    let x = c.before.args.x in
-    let f = c.before.ranges.x in
-    let h : lt_z x (pos 0) ≡ true = rw (plain x f) at c.if1.true in
+pub overflow_cast-result : goal.overflow_cast-result
+overflow_cast-result c =
+    let x = c.args.x in
+    let f = c.ranges.x in
+    let h : lt_z x (pos 0) ≡ true = rw (plain x f) at c.if-w-lt0.true in
     rw (plain x f, to_z-of_z w64 (pos 0 -ℤ x) (minus x f h)) (below x f h)
 
-cast-result-2 : tie.Need-overflow-cast-result-2
-cast-result-2 c =
-    let x = c.before.args.x in
-    let f = c.before.ranges.x in
-    rw (plain x f) (above x f (rw (plain x f) at c.if1.false))
+pub overflow_cast-result-else-w-lt0 : goal.overflow_cast-result-else-w-lt0
+overflow_cast-result-else-w-lt0 c =
+    let x = c.args.x in
+    let f = c.ranges.x in
+    rw (plain x f) (above x f (rw (plain x f) at c.if-w-lt0.false))
 
-returns : tie.Need-returns
-returns c = tt
+pub returns-then-w-lt0 : goal.returns-then-w-lt0
+returns-then-w-lt0 c = tt
 
-returns-2 : tie.Need-returns-2
-returns-2 c = tt
-
-pub size_spec : {M : Type 1} → statement M
-size_spec = tie.close (tie.spec cast-w sub-result cast-result cast-result-2 returns returns-2)
+pub returns-else-w-lt0 : goal.returns-else-w-lt0
+returns-else-w-lt0 c = tt

@@ -1,0 +1,9 @@
+use mathlib.Core.Path.{ap}
+use native.Mathlib.Omega.{arith}
+use lib.ListN.{length}
+use Rattle.reader.proofs.Pieces.{length_piece}
+use Rattle.bench.proofs.lines.Goals as goal
+
+pub bounds-e-0 : goal.bounds-e-0
+bounds-e-0 c =
+    omega (arith, ap length c.event_of-e.ensures, length_piece c.args.events.now c.loop-i.i)

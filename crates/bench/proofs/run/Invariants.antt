@@ -1,0 +1,11 @@
+use Prim.Native.Nat.{◌-◌}
+use mathlib.Core.Path.{◌≡◌}
+use lib.ListN.{length}
+use Rattle.bench.proofs.run.Given as goal
+
+-- `bench::run` ends: the place grows with each full buffer. No more events are printed than were read whole and answered.
+abbrev pub invariant-loop-place : goal.invariant-loop-place
+invariant-loop-place l = length l.buf ≡ length l.initial.buf
+
+abbrev pub decreases-loop-place : goal.decreases-loop-place
+decreases-loop-place l = 18446744073709551616 - l.place
