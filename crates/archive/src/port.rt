@@ -1,4 +1,4 @@
-// What C and Rust call: slices and numbers in, an answer's five values out.
+// What C and Rust call, by the exports of crate archive_c: slices and numbers in, an answer's five values out.
 ghost use Rattle.std.specs.Prelude.{◌≡◌};
 ghost use Rattle.steps.specs.Run.{ran};
 ghost use Rattle.archive.specs.Call.{setup_call, step_call};
@@ -7,22 +7,19 @@ ghost use Rattle.archive.specs.Port.{Returned};
 
 use protocol::Values;
 
-#[unsafe(no_mangle)]
-pub extern "C" fn level_archive_setup(table: &mut [u8], sites: u32, partitions: u32) -> Values
+pub fn level_archive_setup(table: &mut [u8], sites: u32, partitions: u32) -> Values
     ensures { Returned result table.new (setup_call table.old sites partitions) }
 {
     protocol::values_of(crate::setup(table, sites, partitions))
 }
 
-#[unsafe(no_mangle)]
-pub extern "C" fn level_archive_step(table: &mut [u8], event: &[u8]) -> Values
+pub fn level_archive_step(table: &mut [u8], event: &[u8]) -> Values
     ensures { Returned result table.new (step_call table.old event.now) }
 {
     protocol::values_of(crate::step(table, event))
 }
 
-#[unsafe(no_mangle)]
-pub extern "C" fn level_archive_run(table: &mut [u8], events: &[u8], answers: &mut [u8]) -> usize
+pub fn level_archive_run(table: &mut [u8], events: &[u8], answers: &mut [u8]) -> usize
     ensures { (result ≡ pieces_of events.now answers.old) × (ran table.new answers.new ≡ run_call table.old events.now answers.old) }
 {
     crate::run(table, events, answers)
