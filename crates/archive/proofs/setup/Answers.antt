@@ -17,9 +17,13 @@ returns-then-table-ne-TABLE c =
 pub returns-then-not-number_lawful : goal.returns-then-not-number_lawful
 returns-then-not-number_lawful c =
     let a = c.args in
-    ap (λ r. gives r a.table.now) c.refused-then-not-number_lawful.ensures ∙ sym (setup_11 a.table.now a.sites a.partitions (search rules) (fails (let lawful_is'1 : (c.number_lawful.result && c.number_lawful-2.result) ≡ setting_lawful (record { sites = c.args.sites; partitions = c.args.partitions }) = rw (c.number_lawful.ensures, c.number_lawful-2.ensures) (setting_tests _ _) in lawful_is'1) c.if-not-number_lawful.true))
+    let lawful_is : (c.number_lawful.result && c.number_lawful-2.result) ≡ setting_lawful (record { sites = a.sites; partitions = a.partitions }) =
+    rw (c.number_lawful.ensures, c.number_lawful-2.ensures) (setting_tests _ _) in
+    ap (λ r. gives r a.table.now) c.refused-then-not-number_lawful.ensures ∙ sym (setup_11 a.table.now a.sites a.partitions (search rules) (fails lawful_is c.if-not-number_lawful.true))
 
 pub returns : goal.returns
 returns c =
     let a = c.args in
-    ap (λ t. gives Done t) (c.store_le-2.ensures ∙ rw (c.store_le.ensures, c.clear.ensures)) ∙ sym (setup_done a.table.now a.sites a.partitions (search rules) (passes (let lawful_is'1 : (c.number_lawful.result && c.number_lawful-2.result) ≡ setting_lawful (record { sites = c.args.sites; partitions = c.args.partitions }) = rw (c.number_lawful.ensures, c.number_lawful-2.ensures) (setting_tests _ _) in lawful_is'1) c.if-not-number_lawful.false))
+    let lawful_is : (c.number_lawful.result && c.number_lawful-2.result) ≡ setting_lawful (record { sites = a.sites; partitions = a.partitions }) =
+    rw (c.number_lawful.ensures, c.number_lawful-2.ensures) (setting_tests _ _) in
+    ap (λ t. gives Done t) (c.store_le-2.ensures ∙ rw (c.store_le.ensures, c.clear.ensures)) ∙ sym (setup_done a.table.now a.sites a.partitions (search rules) (passes lawful_is c.if-not-number_lawful.false))

@@ -3,7 +3,7 @@ use mathlib.Core.Bool.{◌||◌}
 use Prim.Native.Nat.{◌+◌, ◌*◌, ◌-◌}
 use native.Mathlib.Omega.{arith}
 use lib.Dec.{ltb, eqb}
-use Rattle.protocol.specs.Record.{newer}
+use Rattle.protocol.specs.Record.{Setting, newer}
 use Rattle.protocol.proofs.Order.{newer_by_source}
 use Rattle.protocol.proofs.Places.{later_yes, later_no}
 use Rattle.record.specs.RecordBytes.{record_at}
@@ -14,23 +14,19 @@ use Rattle.search.proofs.by_source.Goals as goal
 pub returns-then-best-than : goal.returns-then-best-than
 unfolding record_at
 returns-then-best-than c =
-    let a = c.args in (
-      λ d. later_yes d (λ i. record_at a.n.now (slot_at i)) a.k a.best (sym ((let tested'1 : let a'1 = c.args in
-          (eqb a'1.best 0 || ltb c.load_u8-than.result c.load_u8-source.result) ≡ (eqb a'1.best 0 || newer d (record_at a'1.n.now (slot_at a'1.k)).id (record_at a'1.n.now (slot_at (a'1.best - 1))).id) = let a'1 = c.args in
-          let n'1 = a'1.n.now in
-          rw (c.load_u8-source.ensures, c.load_u8-than.ensures)
-          (is_later d n'1 a'1.k a'1.best _ (newer_by_source d (record_at n'1 (slot_at a'1.k)).id (record_at n'1 (8 + 56 * a'1.best)).id c.requires.3)) in tested'1)) ∙ c.if-best-than.true),
+    let a = c.args in
+    let tested : (d : Setting) → (eqb a.best 0 || ltb c.load_u8-than.result c.load_u8-source.result) ≡ (eqb a.best 0 || newer d (record_at a.n.now (slot_at a.k)).id (record_at a.n.now (slot_at (a.best - 1))).id) =
+    λ d. rw (c.load_u8-source.ensures, c.load_u8-than.ensures) (is_later d a.n.now a.k a.best _ (newer_by_source d (record_at a.n.now (slot_at a.k)).id (record_at a.n.now (8 + 56 * a.best)).id c.requires.3)) in (
+      λ d. later_yes d (λ i. record_at a.n.now (slot_at i)) a.k a.best (sym (tested d) ∙ c.if-best-than.true),
       omega arith,
     )
 
 pub returns-else-best-than : goal.returns-else-best-than
 unfolding record_at
 returns-else-best-than c =
-    let a = c.args in (
-      λ d. later_no d (λ i. record_at a.n.now (slot_at i)) a.k a.best (sym ((let tested'1 : let a'1 = c.args in
-          (eqb a'1.best 0 || ltb c.load_u8-than.result c.load_u8-source.result) ≡ (eqb a'1.best 0 || newer d (record_at a'1.n.now (slot_at a'1.k)).id (record_at a'1.n.now (slot_at (a'1.best - 1))).id) = let a'1 = c.args in
-          let n'1 = a'1.n.now in
-          rw (c.load_u8-source.ensures, c.load_u8-than.ensures)
-          (is_later d n'1 a'1.k a'1.best _ (newer_by_source d (record_at n'1 (slot_at a'1.k)).id (record_at n'1 (8 + 56 * a'1.best)).id c.requires.3)) in tested'1)) ∙ c.if-best-than.false),
+    let a = c.args in
+    let tested : (d : Setting) → (eqb a.best 0 || ltb c.load_u8-than.result c.load_u8-source.result) ≡ (eqb a.best 0 || newer d (record_at a.n.now (slot_at a.k)).id (record_at a.n.now (slot_at (a.best - 1))).id) =
+    λ d. rw (c.load_u8-source.ensures, c.load_u8-than.ensures) (is_later d a.n.now a.k a.best _ (newer_by_source d (record_at a.n.now (slot_at a.k)).id (record_at a.n.now (8 + 56 * a.best)).id c.requires.3)) in (
+      λ d. later_no d (λ i. record_at a.n.now (slot_at i)) a.k a.best (sym (tested d) ∙ c.if-best-than.false),
       omega arith,
     )

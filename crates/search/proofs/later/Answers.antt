@@ -4,7 +4,7 @@ use Prim.Native.Nat.{◌+◌, ◌*◌, ◌-◌}
 use native.Mathlib.Omega.{arith}
 use lib.Dec.{ltb, eqb}
 use borrow.Author.Rules.{rules}
-use Rattle.protocol.specs.Record.{newer}
+use Rattle.protocol.specs.Record.{Setting, newer}
 use Rattle.protocol.proofs.Order.{newer_by_stamp}
 use Rattle.protocol.proofs.Places.{later_yes, later_no}
 use Rattle.record.specs.RecordBytes.{record_at}
@@ -23,25 +23,19 @@ returns-then-than-stamp c = c.by_source.ensures
 pub returns-then-best-than : goal.returns-then-best-than
 unfolding record_at
 returns-then-best-than c =
-    let a = c.args in (
-      λ d. later_yes d (λ i. record_at a.n.now (slot_at i)) a.k a.best (sym ((let tested'1 : let a'1 = c.args in
-          (eqb a'1.best 0 || ltb c.load_u64-than.result c.load_u64-stamp.result) ≡ (eqb a'1.best 0 || newer d (record_at a'1.n.now (slot_at a'1.k)).id (record_at a'1.n.now (slot_at (a'1.best - 1))).id) = let a'1 = c.args in
-          let n'1 = a'1.n.now in
-          let apart : (record_at n'1 (8 + 56 * a'1.best)).id.stamp ≡ (record_at n'1 (slot_at a'1.k)).id.stamp → ⊥ = λ q. c.if-than-stamp.false (c.load_u64-than.ensures ∙ q ∙ sym c.load_u64-stamp.ensures) in
-          rw (c.load_u64-stamp.ensures, c.load_u64-than.ensures)
-          (is_later d n'1 a'1.k a'1.best _ (newer_by_stamp d (record_at n'1 (slot_at a'1.k)).id (record_at n'1 (8 + 56 * a'1.best)).id apart)) in tested'1)) ∙ c.if-best-than.true),
+    let a = c.args in
+    let tested : (d : Setting) → (eqb a.best 0 || ltb c.load_u64-than.result c.load_u64-stamp.result) ≡ (eqb a.best 0 || newer d (record_at a.n.now (slot_at a.k)).id (record_at a.n.now (slot_at (a.best - 1))).id) =
+    λ d. let apart : (record_at a.n.now (8 + 56 * a.best)).id.stamp ≡ (record_at a.n.now (slot_at a.k)).id.stamp → ⊥ = λ q. c.if-than-stamp.false (c.load_u64-than.ensures ∙ q ∙ sym c.load_u64-stamp.ensures) in rw (c.load_u64-stamp.ensures, c.load_u64-than.ensures) (is_later d a.n.now a.k a.best _ (newer_by_stamp d (record_at a.n.now (slot_at a.k)).id (record_at a.n.now (8 + 56 * a.best)).id apart)) in (
+      λ d. later_yes d (λ i. record_at a.n.now (slot_at i)) a.k a.best (sym (tested d) ∙ c.if-best-than.true),
       omega arith,
     )
 
 pub returns-else-best-than : goal.returns-else-best-than
 unfolding record_at
 returns-else-best-than c =
-    let a = c.args in (
-      λ d. later_no d (λ i. record_at a.n.now (slot_at i)) a.k a.best (sym ((let tested'1 : let a'1 = c.args in
-          (eqb a'1.best 0 || ltb c.load_u64-than.result c.load_u64-stamp.result) ≡ (eqb a'1.best 0 || newer d (record_at a'1.n.now (slot_at a'1.k)).id (record_at a'1.n.now (slot_at (a'1.best - 1))).id) = let a'1 = c.args in
-          let n'1 = a'1.n.now in
-          let apart : (record_at n'1 (8 + 56 * a'1.best)).id.stamp ≡ (record_at n'1 (slot_at a'1.k)).id.stamp → ⊥ = λ q. c.if-than-stamp.false (c.load_u64-than.ensures ∙ q ∙ sym c.load_u64-stamp.ensures) in
-          rw (c.load_u64-stamp.ensures, c.load_u64-than.ensures)
-          (is_later d n'1 a'1.k a'1.best _ (newer_by_stamp d (record_at n'1 (slot_at a'1.k)).id (record_at n'1 (8 + 56 * a'1.best)).id apart)) in tested'1)) ∙ c.if-best-than.false),
+    let a = c.args in
+    let tested : (d : Setting) → (eqb a.best 0 || ltb c.load_u64-than.result c.load_u64-stamp.result) ≡ (eqb a.best 0 || newer d (record_at a.n.now (slot_at a.k)).id (record_at a.n.now (slot_at (a.best - 1))).id) =
+    λ d. let apart : (record_at a.n.now (8 + 56 * a.best)).id.stamp ≡ (record_at a.n.now (slot_at a.k)).id.stamp → ⊥ = λ q. c.if-than-stamp.false (c.load_u64-than.ensures ∙ q ∙ sym c.load_u64-stamp.ensures) in rw (c.load_u64-stamp.ensures, c.load_u64-than.ensures) (is_later d a.n.now a.k a.best _ (newer_by_stamp d (record_at a.n.now (slot_at a.k)).id (record_at a.n.now (8 + 56 * a.best)).id apart)) in (
+      λ d. later_no d (λ i. record_at a.n.now (slot_at i)) a.k a.best (sym (tested d) ∙ c.if-best-than.false),
       omega arith,
     )

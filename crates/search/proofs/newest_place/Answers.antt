@@ -11,12 +11,12 @@ pub loop-k-init : goal.loop-k-init
 loop-k-init c = (omega arith, λ d. sym (place_none d _ _))
 
 pub better-best-requires : goal.better-best-requires
-better-best-requires c = (
-  search rules,
-  omega arith,
-  (let best_at_most'1 : c.loop-k.best ≤ c.loop-k.k = let any : Setting = record { sites = 0; partitions = 0 } in
-      rw (c.loop-k.invariant.1 any) (place-at_most any _ _ c.loop-k.k) in best_at_most'1),
-)
+better-best-requires c =
+    let best_at_most : c.loop-k.best ≤ c.loop-k.k = let any : Setting = record { sites = 0; partitions = 0 } in rw (c.loop-k.invariant.1 any) (place-at_most any _ _ c.loop-k.k) in (
+      search rules,
+      omega arith,
+      best_at_most,
+    )
 
 pub loop-k-preserved : goal.loop-k-preserved
 loop-k-preserved c =
@@ -24,11 +24,11 @@ loop-k-preserved c =
 
 pub returns : goal.returns
 returns c =
+    let best_at_most : c.loop-k.best ≤ c.loop-k.k = let any : Setting = record { sites = 0; partitions = 0 } in rw (c.loop-k.invariant.1 any) (place-at_most any _ _ c.loop-k.k) in
     let e : c.loop-k.k ≡ c.args.held = omega arith in (
       omega (
         arith,
-        (let best_at_most'1 : c.loop-k.best ≤ c.loop-k.k = let any : Setting = record { sites = 0; partitions = 0 } in
-            rw (c.loop-k.invariant.1 any) (place-at_most any _ _ c.loop-k.k) in best_at_most'1),
+        best_at_most,
       ),
       λ d. c.loop-k.invariant.1 d ∙ ap (newest_place d _ _) e,
     )

@@ -19,35 +19,37 @@ fields_lawful-requires c =
 pub returns-then-not-fields_lawful : goal.returns-then-not-fields_lawful
 returns-then-not-fields_lawful c =
     let a = c.args in
+    let test_is : c.fields_lawful.result ≡ fields_test a.t.now a.e.now = c.fields_lawful.ensures ∙ test_by a.t.now a.e.now _ c.setting-setting.ensures in
     ap (λ r. gives r a.t.now) c.refused-then-not-fields_lawful.ensures
-    ∙ sym (fields_unlawful a.t.now a.e.now (is_yes _ (sym c.code_lawful.ensures ∙ c.if-not-code_lawful.false)) (is_no _ (sym (let test_is'4 : c.fields_lawful.result ≡ fields_test c.args.t.now c.args.e.now = let a'4 = c.args in
-    c.fields_lawful.ensures ∙ test_by a'4.t.now a'4.e.now _ c.setting-setting.ensures in test_is'4) ∙ c.if-not-fields_lawful.true)))
+    ∙ sym (fields_unlawful a.t.now a.e.now (is_yes _ (sym c.code_lawful.ensures ∙ c.if-not-code_lawful.false)) (is_no _ (sym test_is ∙ c.if-not-fields_lawful.true)))
 
 pub decide-d-requires : goal.decide-d-requires
 decide-d-requires c =
+    let test_is : c.fields_lawful.result ≡ fields_test c.args.t.now c.args.e.now = c.fields_lawful.ensures ∙ test_by c.args.t.now c.args.e.now _ c.setting-setting.ensures in
     let p = c.requires in (
       p.0,
       p.1,
       p.2,
       (sym c.code_lawful.ensures ∙ c.if-not-code_lawful.false),
-      (sym (let test_is'5 : c.fields_lawful.result ≡ fields_test c.args.t.now c.args.e.now = let a = c.args in
-          c.fields_lawful.ensures ∙ test_by a.t.now a.e.now _ c.setting-setting.ensures in test_is'5) ∙ c.if-not-fields_lawful.false),
+      (sym test_is ∙ c.if-not-fields_lawful.false),
     )
 
 pub carry_out-requires : goal.carry_out-requires
 carry_out-requires c =
+    let sound : Sound (length c.args.t.now) c.args.t.now = record { size = refl; whole = c.requires.0; bytes = c.slice_known-1.given; formed = c.requires.1 } in
+    let test_is : c.fields_lawful.result ≡ fields_test c.args.t.now c.args.e.now = c.fields_lawful.ensures ∙ test_by c.args.t.now c.args.e.now _ c.setting-setting.ensures in
     let d = c.decide-d in
     let a = c.args in
-    let S = (let sound'2 : Sound (length c.args.t.now) c.args.t.now = record { size = refl; whole = c.requires.0; bytes = c.slice_known-1.given; formed = c.requires.1 } in sound'2) in
+    let S = sound in
     let l = is_yes _ (sym c.code_lawful.ensures ∙ c.if-not-code_lawful.false) in
-    let u = is_yes _ (sym (let test_is'9 : c.fields_lawful.result ≡ fields_test c.args.t.now c.args.e.now = let a'9 = c.args in
-    c.fields_lawful.ensures ∙ test_by a'9.t.now a'9.e.now _ c.setting-setting.ensures in test_is'9) ∙ c.if-not-fields_lawful.false) in
+    let u = is_yes _ (sym test_is ∙ c.if-not-fields_lawful.false) in
     (whole_long a.t.now S.whole, decided_fits _ a.t.now a.e.now d.result S l u d.ensures)
 
 pub returns : goal.returns
 returns c =
+    let sound : Sound (length c.args.t.now) c.args.t.now = record { size = refl; whole = c.requires.0; bytes = c.slice_known-1.given; formed = c.requires.1 } in
+    let test_is : c.fields_lawful.result ≡ fields_test c.args.t.now c.args.e.now = c.fields_lawful.ensures ∙ test_by c.args.t.now c.args.e.now _ c.setting-setting.ensures in
     let d = c.decide-d in
     let a = c.args in
     ap (gives d.result.answer) c.carry_out.ensures
-    ∙ sym (decided_gives _ a.t.now a.e.now d.result (let sound'2 : Sound (length c.args.t.now) c.args.t.now = record { size = refl; whole = c.requires.0; bytes = c.slice_known-1.given; formed = c.requires.1 } in sound'2) (is_yes _ (sym c.code_lawful.ensures ∙ c.if-not-code_lawful.false)) (is_yes _ (sym (let test_is'9 : c.fields_lawful.result ≡ fields_test c.args.t.now c.args.e.now = let a'9 = c.args in
-    c.fields_lawful.ensures ∙ test_by a'9.t.now a'9.e.now _ c.setting-setting.ensures in test_is'9) ∙ c.if-not-fields_lawful.false)) d.ensures)
+    ∙ sym (decided_gives _ a.t.now a.e.now d.result sound (is_yes _ (sym c.code_lawful.ensures ∙ c.if-not-code_lawful.false)) (is_yes _ (sym test_is ∙ c.if-not-fields_lawful.false)) d.ensures)

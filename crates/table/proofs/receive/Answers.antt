@@ -32,22 +32,21 @@ pub note_message-requires : goal.note_message-requires
 unfolding put_core
 note_message-requires c =
     let a = c.args in
+    let taken : c.take_off.new.t ≡ put_core (Receive a.i a.m a.p (as_message a.x)) a.t.now = c.take_off.ensures ∙ rw (c.take_in.ensures, c.place_of-d.ensures.0) in
     let fit = c.requires in
     let x = as_message a.x in
     let long : Long a.t.now = omega (arith, fit.whole) in
-    let same = ap length ((let taken'1 : let a'1 = c.args in
-    c.take_off.new.t ≡ put_core (Receive a'1.i a'1.m a'1.p (as_message a'1.x)) a'1.t.now = c.take_off.ensures ∙ rw (c.take_in.ensures, c.place_of-d.ensures.0) in taken'1)) ∙ length-put_core (Receive a.i a.m a.p x) a.t.now long fit in (
+    let same = ap length taken ∙ length-put_core (Receive a.i a.m a.p x) a.t.now long fit in (
       omega (arith, same, fit.whole),
       fit.site,
       fit.partition,
-      subst (Notable a.m a.p x) (sym ((let taken'2 : let a'2 = c.args in
-          c.take_off.new.t ≡ put_core (Receive a'2.i a'2.m a'2.p (as_message a'2.x)) a'2.t.now = c.take_off.ensures ∙ rw (c.take_in.ensures, c.place_of-d.ensures.0) in taken'2))) (receive_notable a.i a.m a.p x a.t.now fit),
+      subst (Notable a.m a.p x) (sym taken) (receive_notable a.i a.m a.p x a.t.now fit),
     )
 
 pub returns : goal.returns
 unfolding put_core
 returns c =
     let a = c.args in
+    let taken : c.take_off.new.t ≡ put_core (Receive a.i a.m a.p (as_message a.x)) a.t.now = c.take_off.ensures ∙ rw (c.take_in.ensures, c.place_of-d.ensures.0) in
     let x = as_message a.x in
-    c.note_message.ensures ∙ ap (message_noted a.m a.p x) ((let taken'1 : let a'1 = c.args in
-    c.take_off.new.t ≡ put_core (Receive a'1.i a'1.m a'1.p (as_message a'1.x)) a'1.t.now = c.take_off.ensures ∙ rw (c.take_in.ensures, c.place_of-d.ensures.0) in taken'1)) ∙ receive-noted a.i a.m a.p x a.t.now c.requires
+    c.note_message.ensures ∙ ap (message_noted a.m a.p x) taken ∙ receive-noted a.i a.m a.p x a.t.now c.requires

@@ -22,24 +22,20 @@ use Rattle.decision.proofs.lookup.at_hand.Goals as goal
 pub found_at-requires : goal.found_at-requires
 found_at-requires c =
     let a = c.args in
+    let place_small : c.place-place.result ≤ held_in (node_of (site_of a.t.now a.m) a.p) =
+    rw (c.place-place.ensures ∙ load_byte _ a.key ∙ ap (λ (b : List ℕ). get_or b a.key 0) (kept a.t.now c.requires.0 c.requires.1 a.m a.p c.requires.2 c.requires.3) ∙ places_at (setting_in a.t.now) (node_of (site_of a.t.now a.m) a.p) a.key c.requires.4) (place_held (setting_in a.t.now) (node_of (site_of a.t.now a.m) a.p) a.key) in
     let t = a.t.now in
     let here = sym c.node.ensures.0 in
     let most = node_held t c.requires.1 a.m a.p c.requires.2 c.requires.3 in (
       search rules,
       omega (
         arith,
-        (let place_small'1 : c.place-place.result ≤ held_in (node_of (site_of c.args.t.now c.args.m) c.args.p) = rw (c.place-place.ensures
-            ∙ load_byte _ c.args.key
-            ∙ ap (λ (b : List ℕ). get_or b c.args.key 0) (kept c.args.t.now c.requires.0 c.requires.1 c.args.m c.args.p c.requires.2 c.requires.3)
-            ∙ places_at (setting_in c.args.t.now) (node_of (site_of c.args.t.now c.args.m) c.args.p) c.args.key c.requires.4) (place_held (setting_in c.args.t.now) (node_of (site_of c.args.t.now c.args.m) c.args.p) c.args.key) in place_small'1),
+        place_small,
         most,
       ),
       λ h. subst (λ n. (record_at n (slot_at (c.place-place.result - 1))).id.source < 4) here (node_source t c.requires.1 a.m a.p c.requires.2 c.requires.3 (c.place-place.result - 1) (omega (
         arith,
-        (let place_small'3 : c.place-place.result ≤ held_in (node_of (site_of c.args.t.now c.args.m) c.args.p) = rw (c.place-place.ensures
-            ∙ load_byte _ c.args.key
-            ∙ ap (λ (b : List ℕ). get_or b c.args.key 0) (kept c.args.t.now c.requires.0 c.requires.1 c.args.m c.args.p c.requires.2 c.requires.3)
-            ∙ places_at (setting_in c.args.t.now) (node_of (site_of c.args.t.now c.args.m) c.args.p) c.args.key c.requires.4) (place_held (setting_in c.args.t.now) (node_of (site_of c.args.t.now c.args.m) c.args.p) c.args.key) in place_small'3),
+        place_small,
       ))),
     )
 

@@ -27,12 +27,10 @@ lent-raised-requires c =
 
 pub returns : goal.returns
 returns c =
+    let raised : as_session c.ended.result ≡ with_page (with_vec (as_session c.session-x.result) (larger (as_vec c.session-x.result.vec) (as_vec c.session-x.result.gathered))) no_page =
+    c.ended.ensures ∙ ap (λ (y : Session). with_page y no_page) c.lent-raised.ensures ∙ rw (raised-plain (as_vec c.session-x.result.vec) (as_vec c.session-x.result.gathered) c.session-x.result.site) in
     c.kept.ensures ∙ sym ((end_says c.args.t.now c.args.s (as_session c.session-x.result) c.session-x.ensures.0) ∙ if_page_lem (as_session c.session-x.result) (not-false _ c.if-not-x.false) (not-false _ c.if-not-x-2.false) ∙ rw (
       sym (c.all_read.ensures c.session-x.result.keys),
       c.if-not-all_read.false,
-      (let raised'4 : let x = c.session-x.result in
-          as_session c.ended.result ≡ with_page (with_vec (as_session x) (larger (as_vec x.vec) (as_vec x.gathered))) no_page = let x = c.session-x.result in
-          c.ended.ensures
-          ∙ ap (λ (y : Session). with_page y no_page) c.lent-raised.ensures
-          ∙ rw (raised-plain (as_vec x.vec) (as_vec x.gathered) x.site) in raised'4),
+      raised,
     ))

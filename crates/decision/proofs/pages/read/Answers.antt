@@ -55,6 +55,7 @@ returns c =
     let heard = heard_by a.t.now x.site a.k in
     let hears : as_vec c.heard-heard.result ≡ heard = c.heard-heard.ensures ∙ rw c.partition-p.ensures.0 in
     let ready : c.at_most.result ≡ at_most (as_vec x.snapshot) heard = c.at_most.ensures ∙ rw hears in
-    let shows : found_of c.newest-found.result ≡ found (setting_in a.t.now) (fits_page a.k (as_vec x.snapshot)) (stored_by a.t.now x.site a.k) = c.newest-found.ensures.0 ∙ rw c.partition-p.ensures.0 in
+    let shows : found_of c.newest-found.result ≡ found (setting_in a.t.now) (fits_page a.k (as_vec x.snapshot)) (stored_by a.t.now x.site a.k) =
+    c.newest-found.ensures.0 ∙ rw c.partition-p.ensures.0 in
     c.kept.ensures
     ∙ sym (read-says a.t.now a.s (as_session x) c.session-x.ensures.0 a.k ∙ if_page_lem (as_session x) (not-false _ c.if-not-x.false) (not-false _ c.if-not-x-2.false) ∙ rw (c.read_on.ensures, sym c.awaited.ensures, c.if-not-awaited.false, sym ready, c.if-not-at_most.false, c.shown.ensures, shows))

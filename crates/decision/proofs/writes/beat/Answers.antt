@@ -18,7 +18,9 @@ own-requires c = let F = (formed c.args.t.now c.requires.1) in (omega arith, ome
 
 pub returns-then-stamp-own : goal.returns-then-stamp-own
 returns-then-stamp-own c =
-    let e : (let sends'1 : Bool = let n = node_of (site_of c.args.t.now c.args.m) c.args.p in ltb (heard_in n c.args.m) (clock_in n) in sends'1) ≡ false = (let sends_loaded'2 : (let sends'3 : Bool = let n'3 = node_of (site_of c.args.t.now c.args.m) c.args.p in ltb (heard_in n'3 c.args.m) (clock_in n'3) in sends'3) ≡ ltb c.own.result c.clock-stamp.result = rw (c.own.ensures, c.clock-stamp.ensures, c.node.ensures.0) in sends_loaded'2) ∙ le-ltb c.own.result c.clock-stamp.result (omega (arith, c.if-stamp-own.true)) in
+    let sends : Bool = let n = node_of (site_of c.args.t.now c.args.m) c.args.p in ltb (heard_in n c.args.m) (clock_in n) in
+    let sends_loaded : sends ≡ ltb c.own.result c.clock-stamp.result = rw (c.own.ensures, c.clock-stamp.ensures, c.node.ensures.0) in
+    let e : sends ≡ false = sends_loaded ∙ le-ltb c.own.result c.clock-stamp.result (omega (arith, c.if-stamp-own.true)) in
     rw (c.done.ensures.0, c.done.ensures.1, beat-answered c.args.t.now c.args.m c.args.p c.requires.2 (formed c.args.t.now c.requires.1).sites, e)
 
 pub has_room-requires : goal.has_room-requires
@@ -27,13 +29,17 @@ has_room-requires c = let F = (formed c.args.t.now c.requires.1) in (omega arith
 pub returns-then-not-has_room : goal.returns-then-not-has_room
 unfolding roomy
 returns-then-not-has_room c =
-    let e : (let sends'1 : Bool = let n = node_of (site_of c.args.t.now c.args.m) c.args.p in ltb (heard_in n c.args.m) (clock_in n) in sends'1) ≡ true = (let sends_loaded'2 : (let sends'3 : Bool = let n'3 = node_of (site_of c.args.t.now c.args.m) c.args.p in ltb (heard_in n'3 c.args.m) (clock_in n'3) in sends'3) ≡ ltb c.own.result c.clock-stamp.result = rw (c.own.ensures, c.clock-stamp.ensures, c.node.ensures.0) in sends_loaded'2) ∙ lt-ltb c.own.result c.clock-stamp.result (omega (arith, c.if-stamp-own.false)) in
+    let sends : Bool = let n = node_of (site_of c.args.t.now c.args.m) c.args.p in ltb (heard_in n c.args.m) (clock_in n) in
+    let sends_loaded : sends ≡ ltb c.own.result c.clock-stamp.result = rw (c.own.ensures, c.clock-stamp.ensures, c.node.ensures.0) in
+    let e : sends ≡ true = sends_loaded ∙ lt-ltb c.own.result c.clock-stamp.result (omega (arith, c.if-stamp-own.false)) in
     let full = sym c.has_room.ensures ∙ c.if-not-has_room.true in
     c.refused.ensures ∙ sym (beat-answered c.args.t.now c.args.m c.args.p c.requires.2 (formed c.args.t.now c.requires.1).sites ∙ rw (e, full))
 
 pub returns : goal.returns
 unfolding roomy
 returns c =
-    let e : (let sends'1 : Bool = let n = node_of (site_of c.args.t.now c.args.m) c.args.p in ltb (heard_in n c.args.m) (clock_in n) in sends'1) ≡ true = (let sends_loaded'2 : (let sends'3 : Bool = let n'3 = node_of (site_of c.args.t.now c.args.m) c.args.p in ltb (heard_in n'3 c.args.m) (clock_in n'3) in sends'3) ≡ ltb c.own.result c.clock-stamp.result = rw (c.own.ensures, c.clock-stamp.ensures, c.node.ensures.0) in sends_loaded'2) ∙ lt-ltb c.own.result c.clock-stamp.result (omega (arith, c.if-stamp-own.false)) in
+    let sends : Bool = let n = node_of (site_of c.args.t.now c.args.m) c.args.p in ltb (heard_in n c.args.m) (clock_in n) in
+    let sends_loaded : sends ≡ ltb c.own.result c.clock-stamp.result = rw (c.own.ensures, c.clock-stamp.ensures, c.node.ensures.0) in
+    let e : sends ≡ true = sends_loaded ∙ lt-ltb c.own.result c.clock-stamp.result (omega (arith, c.if-stamp-own.false)) in
     let free = sym c.has_room.ensures ∙ c.if-not-has_room.false in
     rw (c.done-2.ensures.0, c.done-2.ensures.1, beat-answered c.args.t.now c.args.m c.args.p c.requires.2 (formed c.args.t.now c.requires.1).sites, e, free, c.clock-stamp.ensures, c.node.ensures.0)

@@ -33,13 +33,17 @@ pub has_slot-requires : goal.has_slot-requires
 has_slot-requires c = let F = (formed c.args.t.now c.requires.1) in (omega arith, omega arith, omega arith)
 
 pub returns-then-is_update-has_slot : goal.returns-then-is_update-has_slot
-returns-then-is_update-has_slot c = c.refused-then-is_update-has_slot.ensures ∙ sym ((let first_answered'1 : answered (decode c.args.t.now) (DELIVER c.args.i c.args.m c.args.p)
-    ≡ cond (c.is_update.result && not c.has_slot.result) (refuse 22) (Done and Receive c.args.i c.args.m c.args.p (as_message c.first-x.result) ∷ []) = let F = (formed c.args.t.now c.requires.1) in
+returns-then-is_update-has_slot c =
+    let first_answered : answered (decode c.args.t.now) (DELIVER c.args.i c.args.m c.args.p) ≡ cond (c.is_update.result && not c.has_slot.result) (refuse 22) (Done and Receive c.args.i c.args.m c.args.p (as_message c.first-x.result) ∷ []) =
+    let F = (formed c.args.t.now c.requires.1) in
     let some : 0 < wait_in (channel_of (site_of c.args.t.now c.args.i) c.args.p (place_of c.args.i c.args.m)) = omega (arith, (c.waiting.ensures ∙ ap wait_in (c.channel-c.ensures.0 ∙ ap (channel_of (site_of c.args.t.now c.args.i) c.args.p) c.place_of-d.ensures.0)), c.if-waiting-eq0.false) in
-    deliver_first c.args.t.now c.args.i c.args.m c.args.p (omega arith) c.requires.4 some ∙ rw (c.has_slot.ensures, c.is_update.ensures, (c.first-x.ensures ∙ ap first_in (c.channel-c.ensures.0 ∙ ap (channel_of (site_of c.args.t.now c.args.i) c.args.p) c.place_of-d.ensures.0))) in first_answered'1) ∙ rw c.if-is_update-has_slot.true)
+    deliver_first c.args.t.now c.args.i c.args.m c.args.p (omega arith) c.requires.4 some ∙ rw (c.has_slot.ensures, c.is_update.ensures, (c.first-x.ensures ∙ ap first_in (c.channel-c.ensures.0 ∙ ap (channel_of (site_of c.args.t.now c.args.i) c.args.p) c.place_of-d.ensures.0))) in
+    c.refused-then-is_update-has_slot.ensures ∙ sym (first_answered ∙ rw c.if-is_update-has_slot.true)
 
 pub returns : goal.returns
-returns c = c.taken.ensures ∙ sym ((let first_answered'1 : answered (decode c.args.t.now) (DELIVER c.args.i c.args.m c.args.p)
-    ≡ cond (c.is_update.result && not c.has_slot.result) (refuse 22) (Done and Receive c.args.i c.args.m c.args.p (as_message c.first-x.result) ∷ []) = let F = (formed c.args.t.now c.requires.1) in
+returns c =
+    let first_answered : answered (decode c.args.t.now) (DELIVER c.args.i c.args.m c.args.p) ≡ cond (c.is_update.result && not c.has_slot.result) (refuse 22) (Done and Receive c.args.i c.args.m c.args.p (as_message c.first-x.result) ∷ []) =
+    let F = (formed c.args.t.now c.requires.1) in
     let some : 0 < wait_in (channel_of (site_of c.args.t.now c.args.i) c.args.p (place_of c.args.i c.args.m)) = omega (arith, (c.waiting.ensures ∙ ap wait_in (c.channel-c.ensures.0 ∙ ap (channel_of (site_of c.args.t.now c.args.i) c.args.p) c.place_of-d.ensures.0)), c.if-waiting-eq0.false) in
-    deliver_first c.args.t.now c.args.i c.args.m c.args.p (omega arith) c.requires.4 some ∙ rw (c.has_slot.ensures, c.is_update.ensures, (c.first-x.ensures ∙ ap first_in (c.channel-c.ensures.0 ∙ ap (channel_of (site_of c.args.t.now c.args.i) c.args.p) c.place_of-d.ensures.0))) in first_answered'1) ∙ rw c.if-is_update-has_slot.false)
+    deliver_first c.args.t.now c.args.i c.args.m c.args.p (omega arith) c.requires.4 some ∙ rw (c.has_slot.ensures, c.is_update.ensures, (c.first-x.ensures ∙ ap first_in (c.channel-c.ensures.0 ∙ ap (channel_of (site_of c.args.t.now c.args.i) c.args.p) c.place_of-d.ensures.0))) in
+    c.taken.ensures ∙ sym (first_answered ∙ rw c.if-is_update-has_slot.false)

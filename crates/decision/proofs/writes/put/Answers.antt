@@ -61,10 +61,11 @@ node-requires c =
 pub returns-then-stamp-pass : goal.returns-then-stamp-pass
 unfolding roomy
 returns-then-stamp-pass c =
-    c.waits.ensures ∙ sym ((let by_clock'1 : answered (decode c.args.t.now) (PUT c.args.s c.args.key c.args.quality c.args.level)
-    ≡ cond (ltb c.to_pass-pass.result c.clock-stamp.result) (stamped_by (seen_by c.args.t.now (as_session c.session-x.result)) c.args.s c.args.key c.args.quality c.args.level c.partition-p.result c.clock-stamp.result) (wait c.session-x.result.site c.to_pass-pass.result) = let slot = sym c.has_slot.ensures ∙ c.if-not-has_slot.false in
+    let by_clock : answered (decode c.args.t.now) (PUT c.args.s c.args.key c.args.quality c.args.level) ≡ cond (ltb c.to_pass-pass.result c.clock-stamp.result) (stamped_by (seen_by c.args.t.now (as_session c.session-x.result)) c.args.s c.args.key c.args.quality c.args.level c.partition-p.result c.clock-stamp.result) (wait c.session-x.result.site c.to_pass-pass.result) =
+    let slot = sym c.has_slot.ensures ∙ c.if-not-has_slot.false in
     let room = sym c.has_room.ensures ∙ c.if-not-has_room.false in
-    (put_there c.args.t.now c.args.s c.args.key c.args.quality c.args.level (as_session c.session-x.result) c.session-x.ensures.0 c.partition-p.result c.partition-p.ensures.0 (not-false _ c.if-not-x.false) c.if-x.false (c.session-x.ensures.3 (not-false _ c.if-not-x.false)) (formed c.args.t.now c.requires.1).sites) ∙ rw (slot, room, c.clock-stamp.ensures, c.node.ensures.0, c.to_pass-pass.ensures) in by_clock'1) ∙ rw (le-ltb c.to_pass-pass.result c.clock-stamp.result c.if-stamp-pass.true))
+    (put_there c.args.t.now c.args.s c.args.key c.args.quality c.args.level (as_session c.session-x.result) c.session-x.ensures.0 c.partition-p.result c.partition-p.ensures.0 (not-false _ c.if-not-x.false) c.if-x.false (c.session-x.ensures.3 (not-false _ c.if-not-x.false)) (formed c.args.t.now c.requires.1).sites) ∙ rw (slot, room, c.clock-stamp.ensures, c.node.ensures.0, c.to_pass-pass.ensures) in
+    c.waits.ensures ∙ sym (by_clock ∙ rw (le-ltb c.to_pass-pass.result c.clock-stamp.result c.if-stamp-pass.true))
 
 pub stored-requires : goal.stored-requires
 stored-requires c = (c.session-x.ensures.2 (not-false _ c.if-not-x.false))
@@ -72,7 +73,8 @@ stored-requires c = (c.session-x.ensures.2 (not-false _ c.if-not-x.false))
 pub returns : goal.returns
 unfolding roomy
 returns c =
-    c.stored.ensures ∙ sym ((let by_clock'1 : answered (decode c.args.t.now) (PUT c.args.s c.args.key c.args.quality c.args.level)
-    ≡ cond (ltb c.to_pass-pass.result c.clock-stamp.result) (stamped_by (seen_by c.args.t.now (as_session c.session-x.result)) c.args.s c.args.key c.args.quality c.args.level c.partition-p.result c.clock-stamp.result) (wait c.session-x.result.site c.to_pass-pass.result) = let slot = sym c.has_slot.ensures ∙ c.if-not-has_slot.false in
+    let by_clock : answered (decode c.args.t.now) (PUT c.args.s c.args.key c.args.quality c.args.level) ≡ cond (ltb c.to_pass-pass.result c.clock-stamp.result) (stamped_by (seen_by c.args.t.now (as_session c.session-x.result)) c.args.s c.args.key c.args.quality c.args.level c.partition-p.result c.clock-stamp.result) (wait c.session-x.result.site c.to_pass-pass.result) =
+    let slot = sym c.has_slot.ensures ∙ c.if-not-has_slot.false in
     let room = sym c.has_room.ensures ∙ c.if-not-has_room.false in
-    (put_there c.args.t.now c.args.s c.args.key c.args.quality c.args.level (as_session c.session-x.result) c.session-x.ensures.0 c.partition-p.result c.partition-p.ensures.0 (not-false _ c.if-not-x.false) c.if-x.false (c.session-x.ensures.3 (not-false _ c.if-not-x.false)) (formed c.args.t.now c.requires.1).sites) ∙ rw (slot, room, c.clock-stamp.ensures, c.node.ensures.0, c.to_pass-pass.ensures) in by_clock'1) ∙ rw (lt-ltb c.to_pass-pass.result c.clock-stamp.result c.if-stamp-pass.false, to_z-of_z w32 c.args.level (search rules)))
+    (put_there c.args.t.now c.args.s c.args.key c.args.quality c.args.level (as_session c.session-x.result) c.session-x.ensures.0 c.partition-p.result c.partition-p.ensures.0 (not-false _ c.if-not-x.false) c.if-x.false (c.session-x.ensures.3 (not-false _ c.if-not-x.false)) (formed c.args.t.now c.requires.1).sites) ∙ rw (slot, room, c.clock-stamp.ensures, c.node.ensures.0, c.to_pass-pass.ensures) in
+    c.stored.ensures ∙ sym (by_clock ∙ rw (lt-ltb c.to_pass-pass.result c.clock-stamp.result c.if-stamp-pass.false, to_z-of_z w32 c.args.level (search rules)))

@@ -29,53 +29,55 @@ returns-then-not-record_formed c =
 
 pub bounds-best-key : goal.bounds-best-key
 unfolding record_at
-bounds-best-key c = (let key_small'1 : c.load_u8-key.result < 64 = let a = c.args in
-    let small = (record_read (setting_of a.setting) a.p a.n.now (slot_at c.loop-k.k) (subst T (sym ((passes c.record_formed.ensures c.if-not-record_formed.false))) tt)).key in
-    omega (arith, c.load_u8-key.ensures, small) in key_small'1)
+bounds-best-key c =
+    let key_small : c.load_u8-key.result < 64 =
+    let small = (record_read (setting_of c.args.setting) c.args.p c.args.n.now (slot_at c.loop-k.k) (subst T (sym (passes c.record_formed.ensures c.if-not-record_formed.false)) tt)).key in
+    omega (arith, c.load_u8-key.ensures, small) in
+    key_small
 
 pub overflow_cast-best : goal.overflow_cast-best
 unfolding record_at
-overflow_cast-best c = omega (
-  arith,
-  (let place_small'1 : get_or c.loop-k.best c.load_u8-key.result 0 ≤ 32 = let a = c.args in
-      omega (
-        arith,
-        bests_at_most a.n.now c.loop-k.best c.loop-k.k c.loop-k.invariant.3 c.load_u8-key.result ((let key_small'2 : c.load_u8-key.result < 64 = let a'2 = c.args in
-            let small = (record_read (setting_of a'2.setting) a'2.p a'2.n.now (slot_at c.loop-k.k) (subst T (sym ((passes c.record_formed.ensures c.if-not-record_formed.false))) tt)).key in
-            omega (arith, c.load_u8-key.ensures, small) in key_small'2)),
-      ) in place_small'1),
-)
+overflow_cast-best c =
+    let key_small : c.load_u8-key.result < 64 =
+    let small = (record_read (setting_of c.args.setting) c.args.p c.args.n.now (slot_at c.loop-k.k) (subst T (sym (passes c.record_formed.ensures c.if-not-record_formed.false)) tt)).key in
+    omega (arith, c.load_u8-key.ensures, small) in
+    let place_small : get_or c.loop-k.best c.load_u8-key.result 0 ≤ 32 = omega (arith, bests_at_most c.args.n.now c.loop-k.best c.loop-k.k c.loop-k.invariant.3 c.load_u8-key.result key_small) in
+    omega (
+      arith,
+      place_small,
+    )
 
 pub later-requires : goal.later-requires
 unfolding record_at
-later-requires c = (
-  search rules,
-  omega arith,
-  (let place_small'1 : get_or c.loop-k.best c.load_u8-key.result 0 ≤ 32 = let a = c.args in
-      omega (
-        arith,
-        bests_at_most a.n.now c.loop-k.best c.loop-k.k c.loop-k.invariant.3 c.load_u8-key.result ((let key_small'2 : c.load_u8-key.result < 64 = let a'2 = c.args in
-            let small = (record_read (setting_of a'2.setting) a'2.p a'2.n.now (slot_at c.loop-k.k) (subst T (sym ((passes c.record_formed.ensures c.if-not-record_formed.false))) tt)).key in
-            omega (arith, c.load_u8-key.ensures, small) in key_small'2)),
-      ) in place_small'1),
-)
+later-requires c =
+    let key_small : c.load_u8-key.result < 64 =
+    let small = (record_read (setting_of c.args.setting) c.args.p c.args.n.now (slot_at c.loop-k.k) (subst T (sym (passes c.record_formed.ensures c.if-not-record_formed.false)) tt)).key in
+    omega (arith, c.load_u8-key.ensures, small) in
+    let place_small : get_or c.loop-k.best c.load_u8-key.result 0 ≤ 32 = omega (arith, bests_at_most c.args.n.now c.loop-k.best c.loop-k.k c.loop-k.invariant.3 c.load_u8-key.result key_small) in (
+      search rules,
+      omega arith,
+      place_small,
+    )
 
 pub bounds-best-key-in-loop-k : goal.bounds-best-key-in-loop-k
 unfolding record_at
-bounds-best-key-in-loop-k c = (let key_small'1 : c.load_u8-key.result < 64 = let a = c.args in
-    let small = (record_read (setting_of a.setting) a.p a.n.now (slot_at c.loop-k.k) (subst T (sym ((passes c.record_formed.ensures c.if-not-record_formed.false))) tt)).key in
-    omega (arith, c.load_u8-key.ensures, small) in key_small'1)
+bounds-best-key-in-loop-k c =
+    let key_small : c.load_u8-key.result < 64 =
+    let small = (record_read (setting_of c.args.setting) c.args.p c.args.n.now (slot_at c.loop-k.k) (subst T (sym (passes c.record_formed.ensures c.if-not-record_formed.false)) tt)).key in
+    omega (arith, c.load_u8-key.ensures, small) in
+    key_small
 
 pub loop-k-preserved : goal.loop-k-preserved
 unfolding record_at
 loop-k-preserved c =
-    let a = c.args in (
+    let a = c.args in
+    let key_small : c.load_u8-key.result < 64 =
+    let small = (record_read (setting_of a.setting) a.p a.n.now (slot_at c.loop-k.k) (subst T (sym (passes c.record_formed.ensures c.if-not-record_formed.false)) tt)).key in
+    omega (arith, c.load_u8-key.ensures, small) in (
       omega arith,
-      all_below_more c.loop-k.k _ c.loop-k.invariant.1 ((passes c.record_formed.ensures c.if-not-record_formed.false)),
+      all_below_more c.loop-k.k _ c.loop-k.invariant.1 (passes c.record_formed.ensures c.if-not-record_formed.false),
       simp length-set (omega arith),
-      bests_more a.n.now c.loop-k.best c.loop-k.k c.load_u8-key.result c.later.result c.loop-k.invariant.2 ((let key_small'2 : c.load_u8-key.result < 64 = let a'2 = c.args in
-          let small = (record_read (setting_of a'2.setting) a'2.p a'2.n.now (slot_at c.loop-k.k) (subst T (sym ((passes c.record_formed.ensures c.if-not-record_formed.false))) tt)).key in
-          omega (arith, c.load_u8-key.ensures, small) in key_small'2)) (sym c.load_u8-key.ensures) c.loop-k.invariant.3 c.later.ensures.0,
+      bests_more a.n.now c.loop-k.best c.loop-k.k c.load_u8-key.result c.later.result c.loop-k.invariant.2 key_small (sym c.load_u8-key.ensures) c.loop-k.invariant.3 c.later.ensures.0,
     )
 
 pub returns : goal.returns

@@ -9,16 +9,22 @@ use borrow.Author.Rules.{rules}
 use Rattle.outcome.proofs.answers.waits_to_hear.Goals as goal
 
 pub overflow_cast-site : goal.overflow_cast-site
-overflow_cast-site c = let h = (let there'1 : c.first_short_but-site.result < 4 = let a = c.args in
-    rw c.first_short_but-site.ensures (first_short_but_lem a.m (as_vec a.needed) (as_vec a.heard) (subst (λ b. T (not b)) (sym c.requires) tt)).below in there'1) in search rules
+overflow_cast-site c =
+    let there : c.first_short_but-site.result < 4 =
+    rw c.first_short_but-site.ensures (first_short_but_lem c.args.m (as_vec c.args.needed) (as_vec c.args.heard) (subst (λ b. T (not b)) (sym c.requires) tt)).below in
+    let h = there in search rules
 
 pub offset_bounds-stamps-site : goal.offset_bounds-stamps-site
-offset_bounds-stamps-site c = let h = (let there'1 : c.first_short_but-site.result < 4 = let a = c.args in
-    rw c.first_short_but-site.ensures (first_short_but_lem a.m (as_vec a.needed) (as_vec a.heard) (subst (λ b. T (not b)) (sym c.requires) tt)).below in there'1) in search rules
+offset_bounds-stamps-site c =
+    let there : c.first_short_but-site.result < 4 =
+    rw c.first_short_but-site.ensures (first_short_but_lem c.args.m (as_vec c.args.needed) (as_vec c.args.heard) (subst (λ b. T (not b)) (sym c.requires) tt)).below in
+    let h = there in search rules
 
 pub bounds-stamps-site : goal.bounds-stamps-site
-bounds-stamps-site c = (let there'1 : c.first_short_but-site.result < 4 = let a = c.args in
-    rw c.first_short_but-site.ensures (first_short_but_lem a.m (as_vec a.needed) (as_vec a.heard) (subst (λ b. T (not b)) (sym c.requires) tt)).below in there'1)
+bounds-stamps-site c =
+    let there : c.first_short_but-site.result < 4 =
+    rw c.first_short_but-site.ensures (first_short_but_lem c.args.m (as_vec c.args.needed) (as_vec c.args.heard) (subst (λ b. T (not b)) (sym c.requires) tt)).below in
+    there
 
 pub returns : goal.returns
 unfolding entry

@@ -16,6 +16,6 @@ returns-then-partition_of-p c =
 
 pub returns : goal.returns
 unfolding record_lawful record_at
-returns c = rw ((let of-partition'1 : let a = c.args in
-    eqb (partition_of (setting_of a.setting) (record_at a.b.now a.at).id.key) a.p ≡ true = let part = c.partition_of in
-    rw (← c.load_u8.ensures, ← part.ensures) (eq-eqb part.result c.args.p c.if-partition_of-p.false) in of-partition'1)) c.record_in_range.ensures
+returns c =
+    let of-partition : eqb (partition_of (setting_of c.args.setting) (record_at c.args.b.now c.args.at).id.key) c.args.p ≡ true = rw (← c.load_u8.ensures, ← c.partition_of.ensures) (eq-eqb c.partition_of.result c.args.p c.if-partition_of-p.false) in
+    rw of-partition c.record_in_range.ensures
