@@ -4,12 +4,12 @@
 
 # Proves and builds the bench, and runs it on the 17 events of the example in docs/RULES.md: their lines go to standard output, all else to standard error.
 bench:
-	@scripts/brief check bench >&2
+	@scripts/build bench
 	@target/bin/bench < vectors/01/document-01.events
 
 # Proves the archive and writes target/staticlib/libarchive.a, which C programs and rust/level-archive link.
 library:
-	@scripts/brief staticlib archive
+	@scripts/build library
 
 # Builds rust/target/release/levels, the command for people, over the library.
 levels: library
