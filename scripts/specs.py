@@ -8,7 +8,7 @@ from pathlib import Path
 
 USE = re.compile(r'^\s*(?:ghost )?(?:unfoldable )?(pub )?use ([^\s{;]+?)(?:\.\{([^}]*)\}|\s+as\s+(\S+?))?;?$', re.M)
 HEAD = re.compile(r'^(?P<marks>(?:(?:unfoldable|abbrev|pub) )*)(?P<kind>record |data )?(?P<name>[^\s:({=]+)(?:\s*[({][^)}]*[)}])*\s*:')
-MODULE = re.compile(r'^Rattle·([^.·]+)(?:·specs)?\.specs(?:\.(.+))?$')
+MODULE = re.compile(r'^Rattle\.([^.]+)\.specs(?:\.(.+))?$')
 COMMENT = re.compile(r'\{-.*?-\}|^ *--[^\n]*', re.S | re.M)
 
 
@@ -22,8 +22,8 @@ def is_code(line):
 
 
 def named_by(word, name):
-    """The word stands for the name: as it is, or as a part of an operator (`else` of `_else_`)."""
-    return word == name or ('_' in name and word != '' and word in name.split('_'))
+    """The word stands for the name: as it is, or as a part of an operator (`else` of `◌else◌`)."""
+    return word == name or ('◌' in name and word != '' and word in name.split('◌'))
 
 
 class Definition:
@@ -65,7 +65,7 @@ class Definition:
         for clause in self.clauses():
             bound = self.bound_in(clause)
             for word in tokens(clause):
-                if word not in bound and word[0] != '.':
+                if word not in bound and word.split('.')[0] not in bound | {''}:
                     d = self.file.meaning(word)
                     if d:
                         yield d
@@ -152,13 +152,13 @@ class Crates:
         return [d for f in self.specs.values() for d in f.definitions.values()]
 
     def find(self, module, name):
-        """The definition of the name in a module such as `Rattle·CRATE.specs.FILE`."""
+        """The definition of the name in a module such as `Rattle.CRATE.specs.FILE`."""
         known = MODULE.match(module)
         if not known:
             return None
         crate, place = known[1], known[2] or 'Lib'
         if place.startswith('declared.'):
-            return self.types.get((crate, [p for p in place.split('.') if p != 'the-variants'][-1]))
+            return self.types.get((crate, [p for p in place.split('.') if p != 'TheVariants'][-1]))
         file = self.specs.get((crate, place))
         return file.passes(name) if file else None
 
@@ -183,8 +183,10 @@ def contracts(file):
 
 
 def believed(crates, named=()):
-    """The public crates (those named, or else those that export a function for C), their promises, their functions with contracts, and what these reach."""
-    public = set(named) or {f.crate for f in crates.sources if 'pub extern "C" fn' in f.text}
+    """The public crates (those named, or else those whose functions a static library exports under their names), their promises, their functions with
+    contracts, and what these reach."""
+    exports = {name for f in crates.sources for name in re.findall(r'pub extern "C" fn (\w+)', f.text)}
+    public = set(named) or {f.crate for f in crates.sources if exports & set(re.findall(r'pub fn (\w+)', f.text))}
     promises = [d for d in crates.definitions() if d.file.crate in public and d.is_promise()]
     roots = [d for p in promises for d in p.file.definitions.values()]
     functions = [(f, c) for f in crates.sources if f.crate in public for c in contracts(f)]

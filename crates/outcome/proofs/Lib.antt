@@ -1,2 +1,2 @@
--- A page's marks as a loop goes over them; a session that is lent.
+-- A page's marks as a loop goes over them.
 pub mod Backward

@@ -17,12 +17,12 @@ clock_at S s k = S.net.clock (S.session s).site (partition_of S.net.setting k)
 -- ---- what is named
 
 -- the node has not heard site i up to t, the stamp that v needs; of the sites waited for none lower is short
-pub record ShortOf (v node : Vec) (waitedFor : ℕ → Type 0) (i t : ℕ) : Type 0 where
+pub record ShortOf (v node : Vec) (waited_for : ℕ → Type 0) (i t : ℕ) : Type 0 where
   pub site : i < width
-  pub waited : waitedFor i
+  pub waited : waited_for i
   pub stamp : t ≡ v i
   pub short : node i < t
-  pub lowest : (j : ℕ) → j < i → waitedFor j → v j ≤ node j
+  pub lowest : (j : ℕ) → j < i → waited_for j → v j ≤ node j
 
 -- the clock of the session's site i has not passed t, the larger of the session's largest entry and the node's own entry
 pub record ShortClock (S : State) (s k i t : ℕ) : Type 0 where

@@ -1,2 +1,2 @@
--- The laws of pieces, and what the walks by hand share.
+-- The laws of pieces.
 pub mod Pieces

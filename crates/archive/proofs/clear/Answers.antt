@@ -1,3 +1,4 @@
+-- `archive::clear` meets its contract: below i all is zero, and from i on it is as it was.
 use mathlib.Core.Path.{◌≡◌, refl, ◌∙◌}
 use mathlib.Core.List.{append-nil}
 use native.Mathlib.Omega.{arith}

@@ -4,7 +4,6 @@ use Prim.Native.Nat.{◌-◌, ◌≤◌}
 use lib.ListN.{length, drop, replicate}
 use Rattle.archive.proofs.clear.Given as goal
 
--- `archive::clear` meets its contract: below i all is zero, and from i on it is as it was.
 abbrev pub invariant-loop-i : goal.invariant-loop-i
 invariant-loop-i l = (l.i ≤ length l.initial.t) × (length l.t ≡ length l.initial.t) × (l.t ≡ replicate l.i 0 ++ drop l.i l.initial.t)
 

@@ -1,3 +1,4 @@
+-- `archive::run` meets its contract: a table that is refused turns every piece away, and any other is stepped on as well formed.
 use mathlib.Core.Path.{sym, ap, ◌∙◌}
 use native.Mathlib.Omega.{arith}
 use Rattle.table.specs.Parts.{table_length}
@@ -39,7 +40,7 @@ unfolding pieces_of run_call
 returns c =
     let a = c.args in
     let S : Sound table_length a.table.now =
-    record { size = search rules; whole = search rules; bytes = c.slice_known-1.given; formed = is_yes _ (sym c.well_formed-2.ensures ∙ c.if-not-well_formed.false) } in (
+    record { size = search rules; whole = search rules; bytes = search rules; formed = is_yes _ (sym c.well_formed-2.ensures ∙ c.if-not-well_formed.false) } in (
       c.pieces_for-n.ensures,
       c.run.ensures
           ∙ sym (run_formed a.table.now a.events.now a.answers.now c.pieces_for-n.result S)

@@ -1,3 +1,4 @@
+-- `archive::setup` meets its contract: the tests by `setup_23`, `setup_11` and `setup_done`, the bytes by what `clear` and the two stores ensure.
 use mathlib.Core.Path.{◌≡◌, sym, ap, ◌∙◌}
 use mathlib.Core.Bool.{◌&&◌}
 use borrow.Author.Rules.{rules}

@@ -1,3 +1,4 @@
+-- `archive::step` meets its contract, test by test.
 use mathlib.Core.Path.{sym, ap, ◌∙◌}
 use Rattle.steps.specs.Step.{gives}
 use Rattle.steps.proofs.Stepped.{is_yes}

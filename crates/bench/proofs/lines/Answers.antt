@@ -1,3 +1,5 @@
+-- `bench::lines`: the invariant keeps the place in step with the events printed; the measure is what is left of them. An event that the
+-- reader gives before the end has a code.
 use mathlib.Core.Path.{ap}
 use native.Mathlib.Omega.{arith}
 use lib.ListN.{length}

@@ -1,3 +1,4 @@
+-- `bench::places` meets its contract: the loop's test keeps the count.
 use native.Mathlib.Omega.{arith}
 use Rattle.bench.proofs.places.Goals as goal
 

@@ -1,7 +1,6 @@
 use Prim.Native.Nat.{◌-◌, ◌≤◌}
 use Rattle.bench.proofs.places.Given as goal
 
--- `bench::places` meets its contract: the loop's test keeps the count.
 abbrev pub invariant-loop-n : goal.invariant-loop-n
 invariant-loop-n l = l.n ≤ 20
 

@@ -1,3 +1,4 @@
+-- `bench::put_number` stays in the output: there is room for 20 digits.
 use native.Mathlib.Omega.{arith}
 use Rattle.bench.proofs.put_number.Goals as goal
 

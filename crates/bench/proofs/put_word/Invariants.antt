@@ -1,8 +1,8 @@
+-- `bench::put_word` ends: the measure is what is left of the text.
 use Prim.Native.Nat.{◌-◌}
 use lib.ListN.{length}
 use Rattle.bench.proofs.put_word.Given as goal
 
--- `bench::put_word` ends: the measure is what is left of the text.
 abbrev pub invariant-loop-i : goal.invariant-loop-i
 invariant-loop-i l = Unit {0}
 

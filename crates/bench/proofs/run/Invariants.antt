@@ -3,7 +3,6 @@ use mathlib.Core.Path.{◌≡◌}
 use lib.ListN.{length}
 use Rattle.bench.proofs.run.Given as goal
 
--- `bench::run` ends: the place grows with each full buffer. No more events are printed than were read whole and answered.
 abbrev pub invariant-loop-place : goal.invariant-loop-place
 invariant-loop-place l = length l.buf ≡ length l.initial.buf
 

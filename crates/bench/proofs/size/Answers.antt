@@ -1,3 +1,4 @@
+-- `bench::size`: no cast and no difference leaves its range, by cases on the sign.
 use Prim.Native.Nat.{ℕ}
 use mathlib.Core.Path.{◌≡◌}
 use mathlib.Core.Bool.{true, false}
@@ -11,7 +12,6 @@ use mir.Val.{to_z, of_z, Fits, SFits}
 use mir.ValLaws.{to_z-of_z}
 use Rattle.bench.proofs.size.Goals as goal
 
--- `bench::size`: no cast and no difference leaves its range, by cases on the sign.
 wide : {x : ℤ} → SFits w32 x → SFits w64 x
 wide f = record { sfits = omega (arith, f.sfits) }
 

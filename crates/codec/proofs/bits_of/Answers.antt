@@ -1,3 +1,4 @@
+-- `codec::bits_of` meets its contract, by the level's sign.
 use mathlib.Core.Path.{◌≡◌, ◌∙◌, sym}
 use mathlib.Core.Bool.{true, false}
 use native.Mathlib.Omega.{arith}
@@ -9,7 +10,6 @@ use mir.ValLaws.{to_z-of_z}
 use Rattle.codec.proofs.Level.{minus_one, turned_fits, bits_of-below, bits_of_above}
 use Rattle.codec.proofs.bits_of.Goals as goal
 
--- `codec::bits_of` meets its contract, by the level's sign.
 pub overflow_sub-result : goal.overflow_sub-result
 overflow_sub-result c =
     let x = c.args.x in

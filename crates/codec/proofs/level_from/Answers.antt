@@ -1,3 +1,4 @@
+-- `codec::level_from` meets its contract, by the half that b is in.
 use mathlib.Core.Path.{◌∙◌, sym}
 use Prim.Native.Nat.{◌-◌}
 use native.Mathlib.Omega.{arith}

@@ -1,3 +1,4 @@
+-- `codec::load_eight` meets its contract: the first i bytes are loaded.
 use native.Mathlib.Omega.{arith}
 use borrow.Author.Count.{below_none}
 use lib.ListN.{length-set}

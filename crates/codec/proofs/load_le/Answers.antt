@@ -1,3 +1,4 @@
+-- `codec::load_le` meets its contract: r is the number in the n - i bytes from at + i.
 use mathlib.Core.Path.{refl, sym, ◌∙◌}
 use Prim.Native.Nat.{◌+◌, ◌-◌, ◌<◌}
 use native.Mathlib.Omega.{arith}

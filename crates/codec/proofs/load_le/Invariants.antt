@@ -3,7 +3,6 @@ use Prim.Native.Nat.{◌+◌, ◌-◌, ◌≤◌}
 use Rattle.codec.specs.Le.{load}
 use Rattle.codec.proofs.load_le.Given as goal
 
--- `codec::load_le` meets its contract: r is the number in the n - i bytes from at + i.
 abbrev pub invariant-loop-i : goal.invariant-loop-i
 invariant-loop-i l = (l.i ≤ l.n) × (l.r ≡ load (l.n - l.i) l.t (l.at + l.i))
 

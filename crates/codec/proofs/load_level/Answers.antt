@@ -1,3 +1,4 @@
+-- `codec::load_level` meets its contract, by what its two callees ensure.
 use mathlib.Core.Path.{◌∙◌, ap}
 use mir.Syntax.{w32}
 use mir.ValLaws.{to_z-of_z}

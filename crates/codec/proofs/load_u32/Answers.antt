@@ -1,3 +1,4 @@
+-- `codec::load_u32` meets its contract: four bytes' number fits 32 bits.
 use native.Mathlib.Omega.{arith}
 use Rattle.codec.specs.Le.{span}
 use Rattle.codec.proofs.Le.{load_lt}

@@ -1,3 +1,4 @@
+-- `codec::store_le` meets its contract: what is left to do is to put y in the n - i bytes from at + i.
 use mathlib.Core.Path.{refl, sym, ◌∙◌}
 use Prim.Native.Nat.{◌+◌, ◌-◌}
 use native.Mathlib.Omega.{arith}

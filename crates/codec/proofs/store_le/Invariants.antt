@@ -4,7 +4,6 @@ use lib.ListN.{length}
 use Rattle.codec.specs.Le.{put}
 use Rattle.codec.proofs.store_le.Given as goal
 
--- `codec::store_le` meets its contract: what is left to do is to put y in the n - i bytes from at + i.
 abbrev pub invariant-loop-i : goal.invariant-loop-i
 invariant-loop-i l = (l.i ≤ l.n) × (length l.t ≡ length l.initial.t) × (put (l.n - l.i) l.t (l.at + l.i) l.y ≡ put l.n l.initial.t l.at l.x)
 

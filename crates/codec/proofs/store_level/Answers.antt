@@ -1,3 +1,4 @@
+-- `codec::store_level` meets its contract, by what its two callees ensure.
 use mathlib.Core.Path.{refl, ◌∙◌, ap}
 use mir.Syntax.{w32}
 use mir.ValLaws.{to_z-of_z}

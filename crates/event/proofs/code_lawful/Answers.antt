@@ -1,3 +1,4 @@
+-- `event::code_lawful` meets its contract, by what the load ensures.
 use Rattle.event.specs.Event.{code_lawful}
 use Rattle.event.proofs.code_lawful.Goals as goal
 

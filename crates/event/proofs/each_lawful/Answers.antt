@@ -1,3 +1,4 @@
+-- `event::each_lawful` meets its contract: `all` says it of the first f fields.
 use mathlib.Core.Path.{◌≡◌, sym}
 use native.Mathlib.Omega.{arith}
 use Rattle.codec.proofs.Below.{all_below_none, all_below-step}

@@ -4,7 +4,6 @@ use Rattle.codec.specs.Below.{all_below}
 use Rattle.event.specs.Ranges.{field_lawful}
 use Rattle.event.proofs.each_lawful.Given as goal
 
--- `event::each_lawful` meets its contract: `all` says it of the first f fields.
 abbrev pub invariant-loop-f : goal.invariant-loop-f
 invariant-loop-f l = (l.f ≤ 10) × (l.all ≡ all_below l.f (field_lawful l.used l.zero l.within))
 

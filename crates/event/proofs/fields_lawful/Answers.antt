@@ -1,3 +1,4 @@
+-- `event::fields_lawful` meets its contract: it tests field by field, which is what the protocol asks.
 use Rattle.event.specs.Fields.{zero_at}
 use Rattle.event.specs.Meaning.{fields_in}
 use Rattle.event.specs.Ranges.{fields_lawful}

@@ -1,3 +1,4 @@
+-- `event::load_fields` meets its contract, by what each load ensures.
 use mir.Facts.{to_z-of_z}
 use Rattle.event.specs.Meaning.{fields_in}
 use Rattle.event.proofs.load_fields.Goals as goal

@@ -1,3 +1,4 @@
+-- `lawful::sessions_formed` meets its contract: the first s sessions passed.
 use mathlib.Core.Path.{◌≡◌, sym}
 use native.Mathlib.Omega.{arith}
 use Rattle.codec.proofs.Tests.{fails, passes}

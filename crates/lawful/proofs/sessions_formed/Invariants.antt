@@ -7,7 +7,6 @@ use Rattle.table.specs.Parts.{session_of}
 use Rattle.lawful.specs.WellFormed.{session_formed}
 use Rattle.lawful.proofs.sessions_formed.Given as goal
 
--- `lawful::sessions_formed` meets its contract: the first s sessions passed.
 abbrev pub invariant-loop-s : goal.invariant-loop-s
 invariant-loop-s l = (l.s ≤ 16) × (all_below l.s (λ k. session_formed (setting_of l.setting) (session_of l.t k)) ≡ true)
 

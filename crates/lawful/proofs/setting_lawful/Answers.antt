@@ -1,3 +1,4 @@
+-- `lawful::setting_lawful` meets its contract: both numbers are lawful.
 use Rattle.lawful.proofs.Facts.{setting_tests}
 use Rattle.lawful.proofs.setting_lawful.Goals as goal
 

@@ -1,3 +1,4 @@
+-- `lawful::sites_formed` meets its contract: the first m sites passed.
 use mathlib.Core.Path.{◌≡◌, sym, ◌∙◌}
 use mathlib.Core.Bool.{◌&&◌}
 use mathlib.Core.List.{List}

@@ -7,7 +7,6 @@ use Rattle.table.specs.Parts.{site_of, node_of, kept_of}
 use Rattle.lawful.specs.WellFormed.{site_formed, kept_formed}
 use Rattle.lawful.proofs.sites_formed.Given as goal
 
--- `lawful::sites_formed` meets its contract: the first m sites passed.
 abbrev pub invariant-loop-m : goal.invariant-loop-m
 invariant-loop-m l =
     let c = setting_of l.setting in

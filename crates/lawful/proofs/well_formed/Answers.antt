@@ -1,3 +1,4 @@
+-- `lawful::well_formed` meets its contract, whichever test fails first.
 use mathlib.Core.Path.{sym, subst, ◌∙◌}
 use lib.Dec.{T}
 use Rattle.codec.proofs.Tests.{fails, passes, every_fails, every-joined}
@@ -28,5 +29,5 @@ unfolding well_formed
 returns c =
     let yes = passes c.setting_lawful.ensures c.if-not-setting_lawful.false in
     let same = c.setting-setting.ensures in
-    let yesSessions = passes c.sessions_formed.ensures c.if-not-sessions_formed.false in
-    rw (← same, c.sites_formed.ensures) (sym (every-joined _ ∙ rw (yes, yesSessions)))
+    let yes_sessions = passes c.sessions_formed.ensures c.if-not-sessions_formed.false in
+    rw (← same, c.sites_formed.ensures) (sym (every-joined _ ∙ rw (yes, yes_sessions)))

@@ -1,3 +1,4 @@
+-- `reader::piece` meets its contract: none beyond the end, and otherwise what is cut out.
 use native.Mathlib.Omega.{arith}
 use Rattle.reader.proofs.Pieces.{piece_cut, piece_none}
 use Rattle.reader.proofs.piece.Goals as goal

@@ -1,3 +1,4 @@
+-- `search::better` meets its contract: a record that does not fit is passed over.
 use mathlib.Core.Path.{sym, ◌∙◌}
 use Rattle.protocol.proofs.Places.{better_unfit, better_fit}
 use Rattle.record.specs.RecordBytes.{record_at}

@@ -1,3 +1,4 @@
+-- `search::by_source` meets its contract: where the stamps are equal the sources decide.
 use mathlib.Core.Path.{◌≡◌, sym, ◌∙◌}
 use mathlib.Core.Bool.{◌||◌}
 use Prim.Native.Nat.{◌+◌, ◌*◌, ◌-◌}

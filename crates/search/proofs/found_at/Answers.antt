@@ -1,3 +1,4 @@
+-- `search::found_at` meets its contract: nothing at place 0, and the record in its slot at another.
 use mathlib.Core.Path.{sym, ap, subst, ◌∙◌}
 use mathlib.Core.Option.{some}
 use Prim.Native.Nat.{◌<◌}
@@ -7,7 +8,6 @@ use Rattle.record.specs.RecordBytes.{record_at}
 use Rattle.parts.specs.Node.{slot_at}
 use Rattle.search.proofs.found_at.Goals as goal
 
--- `search::found_at` meets its contract: nothing at place 0, and the record in its slot at another.
 pub returns-then-place-eq0 : goal.returns-then-place-eq0
 returns-then-place-eq0 c =
     let a = c.args in

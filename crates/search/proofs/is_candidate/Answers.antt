@@ -1,3 +1,4 @@
+-- `search::is_candidate` meets its contract, by the tests in their order.
 use mathlib.Core.Path.{sym, ◌∙◌}
 use borrow.Author.Tests.{eq-eqb, ne_eqb}
 use Rattle.protocol.specs.Record.{of_key, fits_page}

@@ -1,3 +1,4 @@
+-- `search::later` meets its contract: where the stamps differ they decide, and elsewhere the sources.
 use mathlib.Core.Path.{◌≡◌, sym, ◌∙◌}
 use mathlib.Core.Bool.{◌||◌}
 use Prim.Native.Nat.{◌+◌, ◌*◌, ◌-◌}

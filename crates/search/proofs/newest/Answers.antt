@@ -1,3 +1,4 @@
+-- `search::newest` meets its contract: what stands at the place that was found, if any.
 use mathlib.Core.Path.{sym, ap, ◌∙◌}
 use Prim.Native.Nat.{ℕ, ◌-◌}
 use native.Mathlib.Omega.{arith}

@@ -1,3 +1,4 @@
+-- `search::newest_place` meets its contract: `best` is the place for the first k records.
 use mathlib.Core.Path.{◌≡◌, sym, ap, ◌∙◌}
 use Prim.Native.Nat.{◌≤◌}
 use native.Mathlib.Omega.{arith}

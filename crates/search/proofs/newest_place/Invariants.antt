@@ -7,7 +7,6 @@ use Rattle.parts.specs.Node.{slot_at}
 use Rattle.search.specs.Found.{fits}
 use Rattle.search.proofs.newest_place.Given as goal
 
--- `search::newest_place` meets its contract: `best` is the place for the first k records.
 abbrev pub invariant-loop-k : goal.invariant-loop-k
 invariant-loop-k l = (l.k ≤ l.held) × ((c : Setting) → l.best ≡ newest_place c (fits l.w) (λ i. record_at l.n (slot_at i)) l.k)
 

@@ -1,3 +1,4 @@
+-- `steps::decide` meets its contract: by the event's code each used field is in its range, and the event's own function decides.
 use native.Mathlib.Omega.{arith}
 use mathlib.Core.Path.{◌≡◌, sym, ap, ◌∙◌}
 use mir.Syntax.{w32}

@@ -1,3 +1,5 @@
+-- `steps::step` meets its contract: refused with 10 or 11 by its tests, and otherwise what is decided is carried out.
+use borrow.Author.Rules.{rules}
 use mathlib.Core.Path.{◌≡◌, refl, sym, ap, ◌∙◌}
 use lib.ListN.{length}
 use Rattle.table.proofs.Parts.{whole_long}
@@ -36,7 +38,7 @@ decide-d-requires c =
 
 pub carry_out-requires : goal.carry_out-requires
 carry_out-requires c =
-    let sound : Sound (length c.args.t.now) c.args.t.now = record { size = refl; whole = c.requires.0; bytes = c.slice_known-1.given; formed = c.requires.1 } in
+    let sound : Sound (length c.args.t.now) c.args.t.now = record { size = refl; whole = c.requires.0; bytes = search rules; formed = c.requires.1 } in
     let test_is : c.fields_lawful.result ≡ fields_test c.args.t.now c.args.e.now = c.fields_lawful.ensures ∙ test_by c.args.t.now c.args.e.now _ c.setting-setting.ensures in
     let d = c.decide-d in
     let a = c.args in
@@ -47,7 +49,7 @@ carry_out-requires c =
 
 pub returns : goal.returns
 returns c =
-    let sound : Sound (length c.args.t.now) c.args.t.now = record { size = refl; whole = c.requires.0; bytes = c.slice_known-1.given; formed = c.requires.1 } in
+    let sound : Sound (length c.args.t.now) c.args.t.now = record { size = refl; whole = c.requires.0; bytes = search rules; formed = c.requires.1 } in
     let test_is : c.fields_lawful.result ≡ fields_test c.args.t.now c.args.e.now = c.fields_lawful.ensures ∙ test_by c.args.t.now c.args.e.now _ c.setting-setting.ensures in
     let d = c.decide-d in
     let a = c.args in

@@ -1,3 +1,4 @@
+-- `table::place_of` meets its contract, by the side that m is on.
 use mathlib.Core.Path.{sym}
 use native.Mathlib.Omega.{arith}
 use borrow.Author.Tests.{lt-ltb, le-ltb}

@@ -1,3 +1,4 @@
+-- `table::publish` meets its contract, by what comes back of the site's part, and the kept places that follow it.
 use mathlib.Core.Path.{◌≡◌, sym, ap, subst, ◌∙◌}
 use Prim.Native.Nat.{◌+◌, ◌-◌, ◌<◌}
 use lib.ListN.{length}

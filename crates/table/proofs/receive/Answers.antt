@@ -1,3 +1,4 @@
+-- `table::receive` meets its contract: the two sites' parts are apart, so the second change finds its channel as it was; the kept places follow.
 use mathlib.Core.Path.{◌≡◌, sym, ap, subst, ◌∙◌}
 use native.Mathlib.Omega.{arith}
 use lib.ListN.{length}
@@ -11,7 +12,6 @@ use Rattle.table.proofs.Decode.{length-put_core}
 use Rattle.table.proofs.Follows.{receive-noted, receive_notable}
 use Rattle.table.proofs.receive.Goals as goal
 
--- `table::receive` meets its contract: the two sites' parts are apart, so the second change finds its channel as it was; the kept places follow.
 pub place_of-d-requires : goal.place_of-d-requires
 place_of-d-requires c = let fit = c.requires in (fit.source, fit.site, fit.other)
 

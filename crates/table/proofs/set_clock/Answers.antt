@@ -1,3 +1,4 @@
+-- `table::set_clock` meets its contract, by what comes back of the site's part.
 use Rattle.parts.specs.Node.{clock_set}
 use Rattle.table.specs.Put.{put_core, kept_after, put_change}
 use Rattle.table.specs.Parts.{on_node}

@@ -1,3 +1,4 @@
+-- `table::set_session` meets its contract, by what comes back of the session.
 use Rattle.parts.specs.Meaning.{as_session}
 use Rattle.parts.specs.Session.{put_session}
 use Rattle.table.specs.Put.{put_core, kept_after, put_change}

@@ -1,3 +1,4 @@
+-- `table::setting` meets its contract: it holds the two bytes that were loaded.
 use Rattle.table.proofs.setting.Goals as goal
 
 pub returns : goal.returns

@@ -1,3 +1,4 @@
+-- `table::take_in` meets its contract, by what comes back of the site's part.
 use native.Mathlib.Omega.{arith}
 use borrow.Author.Rules.{rules}
 use Rattle.record.specs.Meaning.{as_message}

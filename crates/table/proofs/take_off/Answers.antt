@@ -1,3 +1,4 @@
+-- `table::take_off` meets its contract, by what comes back of the site's part.
 use native.Mathlib.Omega.{arith}
 use borrow.Author.Rules.{rules}
 use Rattle.parts.specs.Channel.{popped}

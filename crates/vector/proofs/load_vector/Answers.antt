@@ -1,3 +1,4 @@
+-- `vector::load_vector` meets its contract: the first i entries are loaded.
 use mathlib.Core.Path.{sym, ◌∙◌}
 use native.Mathlib.Omega.{arith}
 use borrow.Author.Count.{below_none}

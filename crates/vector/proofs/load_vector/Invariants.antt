@@ -5,7 +5,6 @@ use Rattle.vector.specs.Entries.{entry, load_vec}
 use Rattle.vector.proofs.Entries.{Agree}
 use Rattle.vector.proofs.load_vector.Given as goal
 
--- `vector::load_vector` meets its contract: the first i entries are loaded.
 abbrev pub invariant-loop-i : goal.invariant-loop-i
 invariant-loop-i l = (l.i ≤ 4) × (length l.e ≡ 4) × Agree l.i (entry l.e) (load_vec l.t l.at)
 

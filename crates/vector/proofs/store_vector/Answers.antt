@@ -1,3 +1,4 @@
+-- `vector::store_vector` meets its contract: the first i entries are put.
 use mathlib.Core.Path.{◌≡◌, refl, sym, ap, ◌∙◌}
 use Prim.Native.Nat.{◌+◌}
 use native.Mathlib.Omega.{arith}

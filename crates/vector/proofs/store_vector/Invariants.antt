@@ -4,7 +4,6 @@ use lib.ListN.{length}
 use Rattle.vector.specs.Entries.{entry, put_first}
 use Rattle.vector.proofs.store_vector.Given as goal
 
--- `vector::store_vector` meets its contract: the first i entries are put.
 abbrev pub invariant-loop-i : goal.invariant-loop-i
 invariant-loop-i l = (l.i ≤ 4) × (length l.t ≡ length l.initial.t) × (l.t ≡ put_first l.i l.initial.t l.at (entry l.e))
 

@@ -1,3 +1,4 @@
+-- `archive::port::level_archive_step` meets its contract, by what `step` ensures.
 use mathlib.Core.Path.{ap, ◌∙◌}
 use Rattle.protocol.specs.Event.{values_of}
 use Rattle.steps.specs.Step.{Called}

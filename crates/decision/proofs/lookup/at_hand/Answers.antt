@@ -1,3 +1,4 @@
+-- `decision::lookup::at_hand` meets its contract: a well-formed table's kept place is the search's.
 use Prim.Native.Nat.{ℕ, ◌-◌, ◌≤◌, ◌<◌}
 use native.Mathlib.Omega.{arith}
 use mathlib.Core.Path.{sym, ap, subst, ◌∙◌}

@@ -1,3 +1,4 @@
+-- `decision::lookup::heard` meets its contract, by what the lent node says.
 use mathlib.Core.Path.{ap, ◌∙◌}
 use Rattle.parts.specs.Node.{heard_in}
 use Rattle.decision.proofs.lookup.heard.Goals as goal

@@ -1,3 +1,4 @@
+-- `decision::lookup::newest` meets its contract, by what the lent node says.
 use Prim.Native.Nat.{ℕ, ◌≤◌, ◌<◌}
 use mathlib.Core.Path.{sym, subst}
 use Rattle.protocol.proofs.Shelf.{found-newest}

@@ -1,3 +1,4 @@
+-- `decision::lookup::partition` meets its contract: a well-formed table has 1 to 4 partitions.
 use native.Mathlib.Nat.{mod-lt}
 use native.Mathlib.Omega.{arith}
 use mathlib.Core.Path.{refl, ap}

@@ -1,3 +1,4 @@
+-- `decision::lookup::session` meets its contract, by what the lent session says and what is lawful of it.
 use Prim.Native.Nat.{◌≤◌}
 use native.Mathlib.Omega.{arith}
 use mathlib.Core.Path.{sym, ap, subst, ◌∙◌}

@@ -1,3 +1,4 @@
+-- `decision::pages::begin` meets its contract: each return is a rung of the ladder.
 use mathlib.Core.Path.{sym, ◌∙◌}
 use borrow.Author.Tests.{not-true, not-false}
 use Rattle.protocol.proofs.Ladders.{if_no_page_lem}

@@ -1,3 +1,4 @@
+-- `decision::pages::end` meets its contract: each return is a rung of the ladder.
 use mathlib.Core.Path.{◌≡◌, sym, ap, ◌∙◌}
 use borrow.Author.Tests.{not-true, not-false}
 use Rattle.vector.specs.Vec.{larger}

@@ -1,3 +1,4 @@
+-- `decision::pages::read` meets its contract: each return is a rung of the ladder.
 use mathlib.Core.Path.{◌≡◌, sym, ◌∙◌}
 use borrow.Author.Tests.{not-true, not-false}
 use Rattle.vector.specs.Vec.{at_most}

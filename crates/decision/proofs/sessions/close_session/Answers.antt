@@ -1,3 +1,4 @@
+-- `decision::sessions::close_session` meets its contract: each return is a rung of the ladder.
 use mathlib.Core.Path.{sym, ap, ◌∙◌}
 use borrow.Author.Tests.{not-true, not-false}
 use Rattle.protocol.specs.declared.Answer.{Answer}

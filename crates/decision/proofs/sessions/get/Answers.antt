@@ -1,3 +1,4 @@
+-- `decision::sessions::get` meets its contract: each return is a rung of the ladder.
 use mathlib.Core.Path.{◌≡◌, sym, ◌∙◌}
 use borrow.Author.Tests.{not-true, not-false}
 use borrow.Author.Rules.{rules}

@@ -1,3 +1,4 @@
+-- `decision::sessions::open_session` meets its contract: each return is a rung of the ladder.
 use mathlib.Core.Path.{sym, ap, ◌∙◌}
 use Rattle.protocol.specs.declared.Answer.{Answer}
 use Rattle.protocol.proofs.Ladders.{keeps}

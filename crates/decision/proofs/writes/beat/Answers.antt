@@ -1,3 +1,4 @@
+-- `decision::writes::beat` meets its contract, by the tests in their order.
 use mathlib.Core.Path.{◌≡◌, sym, ◌∙◌}
 use mathlib.Core.Bool.{Bool, true, false}
 use native.Mathlib.Omega.{arith}

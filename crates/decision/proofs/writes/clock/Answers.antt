@@ -1,3 +1,4 @@
+-- `decision::writes::clock` meets its contract: its test is that of refusal 19.
 use mathlib.Core.Path.{sym, ap, ◌∙◌}
 use native.Mathlib.Omega.{arith}
 use borrow.Author.Tests.{le-leb, lt-leb}
@@ -7,7 +8,6 @@ use Rattle.lawful.proofs.Facts.{formed}
 use Rattle.decision.proofs.Times.{clock-answered}
 use Rattle.decision.proofs.writes.clock.Goals as goal
 
--- `decision::writes::clock` meets its contract: its test is that of refusal 19.
 pub node-requires : goal.node-requires
 node-requires c =
     let F = formed c.args.t.now c.requires.1 in

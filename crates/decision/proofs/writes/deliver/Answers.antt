@@ -1,3 +1,4 @@
+-- `decision::writes::deliver` meets its contract, by the tests in their order.
 use Prim.Native.Nat.{◌<◌}
 use native.Mathlib.Omega.{arith}
 use mathlib.Core.Path.{◌≡◌, sym, ap, ◌∙◌}

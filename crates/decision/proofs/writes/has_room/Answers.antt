@@ -1,3 +1,4 @@
+-- `decision::writes::has_room` meets its contract: `all` says it of the first d channels.
 use mathlib.Core.Path.{◌≡◌, sym, ap}
 use Prim.Native.Nat.{◌-◌}
 use native.Mathlib.Omega.{arith}

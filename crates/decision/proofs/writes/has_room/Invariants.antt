@@ -7,7 +7,6 @@ use Rattle.parts.specs.Channel.{wait_in}
 use Rattle.table.specs.Parts.{site_of, channel_of}
 use Rattle.decision.proofs.writes.has_room.Given as goal
 
--- `decision::writes::has_room` meets its contract: `all` says it of the first d channels.
 abbrev pub invariant-loop-d : goal.invariant-loop-d
 invariant-loop-d l = (l.d ≤ l.n) × (l.n ≡ load 1 l.t 0 - 1) × (l.all ≡ all_below l.d (λ k. ltb (wait_in (channel_of (site_of l.t l.m) l.p k)) 8))
 

@@ -1,3 +1,4 @@
+-- `decision::writes::has_slot` meets its contract, by what the node holds.
 use Rattle.decision.proofs.writes.has_slot.Goals as goal
 
 pub returns : goal.returns

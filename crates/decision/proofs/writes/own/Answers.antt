@@ -1,3 +1,4 @@
+-- `decision::writes::own` meets its contract: the entry of the vector that was looked up.
 use mathlib.Core.Path.{ap}
 use Rattle.vector.specs.Entries.{entry}
 use Rattle.decision.proofs.writes.own.Goals as goal

@@ -1,3 +1,4 @@
+-- `decision::writes::to_pass` meets its contract.
 use Prim.Native.Nat.{max}
 use mathlib.Core.Path.{ap₂, ◌∙◌}
 use Rattle.decision.proofs.writes.to_pass.Goals as goal

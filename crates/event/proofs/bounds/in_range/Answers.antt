@@ -1,3 +1,4 @@
+-- `event::bounds::in_range` meets its contract, by what its two callees ensure.
 use mir.Syntax.{w32}
 use mir.Val.{SFits}
 use mir.Facts.{to_z-of_z}

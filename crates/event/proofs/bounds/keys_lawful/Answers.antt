@@ -1,3 +1,4 @@
+-- `event::bounds::keys_lawful` meets its contract: `all` says it of the first i keys.
 use mathlib.Core.Path.{◌≡◌, sym}
 use Prim.Native.Nat.{min}
 use native.Mathlib.Omega.{arith}

@@ -5,7 +5,6 @@ use lib.ListN.{get_or}
 use Rattle.codec.specs.Below.{all_below}
 use Rattle.event.proofs.bounds.keys_lawful.Given as goal
 
--- `event::bounds::keys_lawful` meets its contract: `all` says it of the first i keys.
 abbrev pub invariant-loop-i : goal.invariant-loop-i
 invariant-loop-i l = (l.i ≤ l.n) × (l.n ≤ 8) × (l.n ≡ min 8 l.count) × (l.all ≡ all_below l.i (λ k. ltb (get_or l.keys k 0) 64))
 

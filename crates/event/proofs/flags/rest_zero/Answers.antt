@@ -1,3 +1,4 @@
+-- `event::flags::rest_zero` meets its contract: no keys at all, or `all` says it of the first i.
 use mathlib.Core.Path.{◌≡◌, sym, ◌∙◌}
 use native.Mathlib.Omega.{arith}
 use Rattle.codec.proofs.Below.{all_below_none, all_below-step}

@@ -6,7 +6,6 @@ use Rattle.codec.specs.Le.{load}
 use Rattle.codec.specs.Below.{all_below}
 use Rattle.event.proofs.flags.rest_zero.Given as goal
 
--- `event::flags::rest_zero` meets its contract: no keys at all, or `all` says it of the first i.
 abbrev pub invariant-loop-i : goal.invariant-loop-i
 invariant-loop-i l = (l.i ≤ 8) × (l.count ≡ load 1 l.e 7) × (l.all ≡ all_below l.i (λ k. ltb k l.count || eqb (load 1 l.e (20 + k)) 0))
 

@@ -1,3 +1,4 @@
+-- `event::flags::zero` meets its contract: a test for each field, in the order of the fields.
 use Rattle.codec.specs.Tabulate.{tabulate}
 use Rattle.event.specs.Fields.{zero_at}
 use Rattle.event.specs.Ranges.{zero_in}

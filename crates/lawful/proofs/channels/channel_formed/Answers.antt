@@ -1,3 +1,4 @@
+-- `lawful::channels::channel_formed` meets its contract, with no message, too many or some.
 use mathlib.Core.Path.{◌≡◌, sym, ◌∙◌}
 use mathlib.Core.Bool.{true}
 use Prim.Native.Nat.{ℕ, ◌+◌, ◌-◌, ◌<◌}
@@ -10,7 +11,6 @@ use Rattle.parts.specs.Channel.{front_in}
 use Rattle.lawful.specs.WellFormed.{channel_formed}
 use Rattle.lawful.proofs.channels.channel_formed.Goals as goal
 
--- `lawful::channels::channel_formed` meets its contract, with no message, too many or some.
 -- the place d among the other sites is there
 place_there : (d sites : ℕ) → ltb (d + 1) sites ≡ ltb d (sites - 1)
 place_there d sites = go (dec_lt (d + 1) sites)

@@ -1,3 +1,4 @@
+-- `lawful::channels::messages_formed` meets its contract: the first k messages are lawful.
 use mathlib.Core.Path.{◌≡◌, sym}
 use native.Mathlib.Omega.{arith}
 use Rattle.codec.proofs.Tests.{fails, passes}

@@ -7,7 +7,6 @@ use Rattle.record.specs.RecordFormed.{message_formed}
 use Rattle.parts.specs.Channel.{ring_at}
 use Rattle.lawful.proofs.channels.messages_formed.Given as goal
 
--- `lawful::channels::messages_formed` meets its contract: the first k messages are lawful.
 abbrev pub invariant-loop-k : goal.invariant-loop-k
 invariant-loop-k l = (l.k ≤ l.wait) × (all_below l.k (λ j. message_formed (setting_of l.setting) l.i l.p l.b (ring_at l.front j)) ≡ true)
 

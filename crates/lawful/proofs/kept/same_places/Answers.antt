@@ -1,3 +1,4 @@
+-- `lawful::kept::same_places` meets its contract: the first i words are the same.
 use mathlib.Core.Path.{◌≡◌, sym, ◌∙◌}
 use native.Mathlib.Omega.{arith}
 use Rattle.codec.proofs.Below.{all_below_none, all_below-step}

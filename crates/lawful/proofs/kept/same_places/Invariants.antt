@@ -5,7 +5,6 @@ use Rattle.codec.specs.Le.{load}
 use Rattle.codec.specs.Below.{all_below}
 use Rattle.lawful.proofs.kept.same_places.Given as goal
 
--- `lawful::kept::same_places` meets its contract: the first i words are the same.
 abbrev pub invariant-loop-i : goal.invariant-loop-i
 invariant-loop-i l = (l.i ≤ 8) × (l.same ≡ all_below l.i (λ j. eqb (load 8 l.a (8 * j)) (load 8 l.b (8 * j))))
 

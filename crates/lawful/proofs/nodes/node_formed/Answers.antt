@@ -1,3 +1,4 @@
+-- `lawful::nodes::node_formed` meets its contract, whichever test fails first.
 use mathlib.Core.Path.{sym, ap}
 use mathlib.Core.Bool.{◌&&◌}
 use borrow.Author.Tests.{lt-leb, le-leb}
@@ -30,7 +31,7 @@ unfolding node_formed heard_in
 returns c =
     let held = c.held-held.ensures in
     let few = rw (c.most.ensures.0, held) at c.if-most-held.false in
-    let yesVec = passes c.vector_formed.ensures c.if-not-vector_formed.false in
-    let yesTime = rw c.clock.ensures at (passes c.time_lawful.ensures c.if-not-time_lawful.false) in
+    let yes_vec = passes c.vector_formed.ensures c.if-not-vector_formed.false in
+    let yes_time = rw c.clock.ensures at (passes c.time_lawful.ensures c.if-not-time_lawful.false) in
     let a = c.args in
-    rw (c.records_formed.ensures, held) (ap (λ b. b && kept_formed (setting_of a.setting) a.n.now a.s.now) (sym (every_last _ (yesTime, (yesVec, (le-leb _ _ few, tt))))))
+    rw (c.records_formed.ensures, held) (ap (λ b. b && kept_formed (setting_of a.setting) a.n.now a.s.now) (sym (every_last _ (yes_time, (yes_vec, (le-leb _ _ few, tt))))))

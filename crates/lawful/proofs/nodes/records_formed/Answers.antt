@@ -1,3 +1,4 @@
+-- `lawful::nodes::records_formed` meets its contract: the first k records are lawful, and `best` has the newest of each key among them.
 use mathlib.Core.Path.{◌≡◌, sym, ap, subst, ◌∙◌}
 use mathlib.Core.Bool.{true}
 use mathlib.Core.List.{List}

@@ -9,7 +9,6 @@ use Rattle.parts.specs.Node.{slot_at}
 use Rattle.lawful.proofs.Bests.{Bests}
 use Rattle.lawful.proofs.nodes.records_formed.Given as goal
 
--- `lawful::nodes::records_formed` meets its contract: the first k records are lawful, and `best` has the newest of each key among them.
 abbrev pub invariant-loop-k : goal.invariant-loop-k
 invariant-loop-k l =
     (l.k ≤ l.held) × (all_below l.k (λ j. record_formed (setting_of l.setting) l.p l.n (slot_at j)) ≡ true) × (length l.best ≡ 64) × Bests l.n l.k l.best

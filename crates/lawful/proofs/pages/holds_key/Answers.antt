@@ -1,3 +1,4 @@
+-- `lawful::pages::holds_key` meets its contract: k is none of the first i keys.
 use mathlib.Core.Path.{◌≡◌, sym, ap, ◌∙◌}
 use mathlib.Core.Bool.{not}
 use native.Mathlib.Omega.{arith}

@@ -6,7 +6,6 @@ use Rattle.codec.specs.Le.{load}
 use Rattle.codec.specs.Below.{all_below}
 use Rattle.lawful.proofs.pages.holds_key.Given as goal
 
--- `lawful::pages::holds_key` meets its contract: k is none of the first i keys.
 abbrev pub invariant-loop-i : goal.invariant-loop-i
 invariant-loop-i l = (l.i ≤ l.n) × (all_below l.i (λ j. not (eqb (load 1 l.b (l.at + j)) l.k)) ≡ true)
 

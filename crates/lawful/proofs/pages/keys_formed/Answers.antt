@@ -1,3 +1,4 @@
+-- `lawful::pages::keys_formed` meets its contract: the first i keys are in range and differ.
 use mathlib.Core.Path.{◌≡◌, sym, ◌∙◌}
 use mathlib.Core.Bool.{and-false}
 use native.Mathlib.Omega.{arith}

@@ -8,7 +8,6 @@ use Rattle.codec.specs.Tabulate.{tabulate}
 use Rattle.codec.specs.Lists.{has}
 use Rattle.lawful.proofs.pages.keys_formed.Given as goal
 
--- `lawful::pages::keys_formed` meets its contract: the first i keys are in range and differ.
 abbrev pub invariant-loop-i : goal.invariant-loop-i
 invariant-loop-i l = (l.i ≤ l.n) × (all_below l.i (λ k. ltb (load 1 l.b (l.at + k)) 64 && not (has (tabulate k (λ j. load 1 l.b (l.at + j))) (load 1 l.b (l.at + k)))) ≡ true)
 

@@ -1,3 +1,4 @@
+-- `lawful::pages::page_keys` meets its contract, whether the page is open or not.
 use mathlib.Core.Path.{◌≡◌, sym, ◌∙◌}
 use mathlib.Core.Bool.{true, false}
 use Prim.Native.Nat.{ℕ}
@@ -7,7 +8,6 @@ use lib.Dec.{ltb}
 use Rattle.codec.proofs.Tests.{every_fails, every-joined}
 use Rattle.lawful.proofs.pages.page_keys.Goals as goal
 
--- `lawful::pages::page_keys` meets its contract, whether the page is open or not.
 no_key : (n : ℕ) → n ≡ 0 → ltb 0 n ≡ false
 no_key n e = le-ltb 0 n (omega arith)
 

@@ -1,3 +1,4 @@
+-- `lawful::sessions::flags_formed` meets its contract: the first i flags passed.
 use mathlib.Core.Path.{◌≡◌, sym}
 use native.Mathlib.Omega.{arith}
 use borrow.Author.Tests.{lt-ltb, le-ltb}

@@ -6,7 +6,6 @@ use Rattle.codec.specs.Le.{load}
 use Rattle.codec.specs.Below.{all_below}
 use Rattle.lawful.proofs.sessions.flags_formed.Given as goal
 
--- `lawful::sessions::flags_formed` meets its contract: the first i flags passed.
 abbrev pub invariant-loop-i : goal.invariant-loop-i
 invariant-loop-i l = (l.i ≤ l.n) × (all_below l.i (λ k. ltb (load 1 l.b (l.at + k)) 2) ≡ true)
 

@@ -1,3 +1,4 @@
+-- `lawful::sessions::page_lawful` meets its contract, whichever test fails first.
 use mathlib.Core.Path.{sym}
 use borrow.Author.Tests.{lt-leb, le-leb}
 use Rattle.codec.proofs.Tests.{fails, passes, every_fails, every_last}
@@ -22,6 +23,6 @@ pub returns : goal.returns
 returns c =
     let count = c.load_u8-count.ensures in
     let few = rw count at c.if-count-gt8.false in
-    let yesKeys = rw count at (passes c.page_keys.ensures c.if-not-page_keys.false) in
-    let yesVec = passes c.vector_formed.ensures c.if-not-vector_formed.false in
-    rw (page_lawful_in, c.vector_formed-2.ensures) (sym (every_last _ (le-leb _ 8 few, (yesKeys, (yesVec, tt)))))
+    let yes_keys = rw count at (passes c.page_keys.ensures c.if-not-page_keys.false) in
+    let yes_vec = passes c.vector_formed.ensures c.if-not-vector_formed.false in
+    rw (page_lawful_in, c.vector_formed-2.ensures) (sym (every_last _ (le-leb _ 8 few, (yes_keys, (yes_vec, tt)))))

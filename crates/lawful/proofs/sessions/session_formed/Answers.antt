@@ -1,3 +1,4 @@
+-- `lawful::sessions::session_formed` meets its contract, whichever test fails first.
 use mathlib.Core.Path.{sym, ◌∙◌}
 use borrow.Author.Tests.{lt-ltb, le-ltb}
 use Rattle.codec.proofs.Tests.{fails, passes, every_fails, every_last}
@@ -35,9 +36,9 @@ returns-then-not-vector_formed c =
 pub returns : goal.returns
 unfolding session_formed session_lawful session_in
 returns c =
-    let yesOpen = lt-ltb _ 2 (rw c.load_u8.ensures at c.if-load_u8-ge2.false) in
-    let yesPaged = lt-ltb _ 2 (rw c.load_u8-2.ensures at c.if-load_u8-ge2-2.false) in
-    let yesSite = passes c.site_lawful.ensures c.if-not-site_lawful.false in
-    let yesMarks = passes c.flags_formed.ensures c.if-not-flags_formed.false in
-    let yesVec = passes c.vector_formed.ensures c.if-not-vector_formed.false in
-    c.page_lawful.ensures ∙ sym (every_last _ (yesOpen, (yesPaged, (yesMarks, tt))) ∙ every_last _ (yesSite, (yesVec, tt)))
+    let yes_open = lt-ltb _ 2 (rw c.load_u8.ensures at c.if-load_u8-ge2.false) in
+    let yes_paged = lt-ltb _ 2 (rw c.load_u8-2.ensures at c.if-load_u8-ge2-2.false) in
+    let yes_site = passes c.site_lawful.ensures c.if-not-site_lawful.false in
+    let yes_marks = passes c.flags_formed.ensures c.if-not-flags_formed.false in
+    let yes_vec = passes c.vector_formed.ensures c.if-not-vector_formed.false in
+    c.page_lawful.ensures ∙ sym (every_last _ (yes_open, (yes_paged, (yes_marks, tt))) ∙ every_last _ (yes_site, (yes_vec, tt)))

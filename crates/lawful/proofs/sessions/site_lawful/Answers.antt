@@ -1,3 +1,4 @@
+-- `lawful::sessions::site_lawful` meets its contract, whether the session is open or not.
 use mathlib.Core.Path.{sym, ◌∙◌}
 use borrow.Author.Tests.{ne_eqb}
 use Rattle.lawful.proofs.sessions.site_lawful.Goals as goal

@@ -1,3 +1,4 @@
+-- `lawful::sites::channels_formed` meets its contract: the first d channels passed.
 use mathlib.Core.Path.{◌≡◌, sym}
 use native.Mathlib.Omega.{arith}
 use Rattle.codec.proofs.Tests.{fails, passes}

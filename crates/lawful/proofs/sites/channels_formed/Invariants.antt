@@ -7,7 +7,6 @@ use Rattle.table.specs.Parts.{channel_of}
 use Rattle.lawful.specs.WellFormed.{channel_formed}
 use Rattle.lawful.proofs.sites.channels_formed.Given as goal
 
--- `lawful::sites::channels_formed` meets its contract: the first d channels passed.
 abbrev pub invariant-loop-d : goal.invariant-loop-d
 invariant-loop-d l =
     (l.d ≤ 3) × (all_below l.d (λ k. channel_formed (setting_of l.setting) l.m l.p k (channel_of l.site l.p k)) ≡ true)

@@ -1,3 +1,4 @@
+-- `lawful::sites::site_formed` meets its contract: the first p partitions passed.
 use mathlib.Core.Path.{◌≡◌, sym, ◌∙◌}
 use mathlib.Core.Bool.{Bool, ◌&&◌, and-false}
 use mathlib.Core.List.{List}
@@ -47,9 +48,9 @@ returns-then-not-channels_formed c =
 
 pub loop-p-preserved : goal.loop-p-preserved
 loop-p-preserved c =
-    let yesNode = passes (node_test c.args.t.now c.site-site.result.now _ _ (setting_of c.args.setting) c.args.m c.loop-p.p c.node_of.ensures.0 c.kept.ensures.0 c.node_formed.ensures) c.if-not-node_formed.false in
-    let yesChannels = passes c.channels_formed.ensures c.if-not-channels_formed.false in
-    (omega arith, all_below_more c.loop-p.p _ c.loop-p.invariant.1 (rw (yesNode, yesChannels)))
+    let yes_node = passes (node_test c.args.t.now c.site-site.result.now _ _ (setting_of c.args.setting) c.args.m c.loop-p.p c.node_of.ensures.0 c.kept.ensures.0 c.node_formed.ensures) c.if-not-node_formed.false in
+    let yes_channels = passes c.channels_formed.ensures c.if-not-channels_formed.false in
+    (omega arith, all_below_more c.loop-p.p _ c.loop-p.invariant.1 (rw (yes_node, yes_channels)))
 
 pub returns : goal.returns
 returns c =

@@ -9,7 +9,6 @@ use Rattle.table.specs.Parts.{node_of, channel_of, kept_of}
 use Rattle.lawful.specs.WellFormed.{node_formed, channel_formed, kept_formed}
 use Rattle.lawful.proofs.sites.site_formed.Given as goal
 
--- `lawful::sites::site_formed` meets its contract: the first p partitions passed.
 -- what is tested of partition p of site m
 abbrev pub tested : (t : List ℕ) (c : Setting) (m : ℕ) (site : List ℕ) (p : ℕ) → Bool
 tested t c m site p = node_formed c m p (node_of site p) && kept_formed c (node_of site p) (kept_of t m p) && all_below 3 (λ d. channel_formed c m p d (channel_of site p d))

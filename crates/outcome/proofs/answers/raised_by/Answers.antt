@@ -1,8 +1,8 @@
+-- `outcome::answers::raised_by` meets its contract: nothing was found, or it is raised.
 use borrow.Author.Tests.{not-true, not-false}
 use Rattle.protocol.specs.Record.{raised_by}
 use Rattle.outcome.proofs.answers.raised_by.Goals as goal
 
--- `outcome::answers::raised_by` meets its contract: nothing was found, or it is raised.
 pub returns-then-not-x : goal.returns-then-not-x
 unfolding raised_by
 returns-then-not-x c = rw (not-true _ c.if-not-x.true)

@@ -1,3 +1,4 @@
+-- `outcome::answers::refused` meets its contract.
 use Rattle.protocol.specs.Event.{plain}
 use Rattle.outcome.proofs.answers.refused.Goals as goal
 

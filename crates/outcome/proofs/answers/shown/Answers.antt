@@ -1,3 +1,4 @@
+-- `outcome::answers::shown` meets its contract: nothing was found, or its fields are shown.
 use mir.ValLaws.{to_z-of_z}
 use mir.Syntax.{w32}
 use borrow.Author.Rules.{rules}
@@ -5,7 +6,6 @@ use borrow.Author.Tests.{not-true, not-false}
 use Rattle.protocol.specs.Event.{shown}
 use Rattle.outcome.proofs.answers.shown.Goals as goal
 
--- `outcome::answers::shown` meets its contract: nothing was found, or its fields are shown.
 pub returns-then-not-x : goal.returns-then-not-x
 unfolding shown
 returns-then-not-x c = rw (not-true _ c.if-not-x.true)

@@ -1,3 +1,4 @@
+-- `outcome::answers::stored` meets its contract: the message carries the old vector, and the session has the new one.
 use mir.ValLaws.{to_z-of_z}
 use mir.Syntax.{w32}
 use Rattle.protocol.specs.Serve.{written}

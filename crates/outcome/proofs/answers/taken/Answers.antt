@@ -1,3 +1,4 @@
+-- `outcome::answers::taken` meets its contract: the message and its vector are the letter's.
 use mathlib.Core.Path.{refl}
 use Rattle.outcome.proofs.answers.taken.Goals as goal
 

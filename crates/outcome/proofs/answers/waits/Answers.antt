@@ -1,3 +1,4 @@
+-- `outcome::answers::waits` meets its contract.
 use Rattle.outcome.proofs.answers.waits.Goals as goal
 
 pub returns : goal.returns

@@ -1,3 +1,4 @@
+-- `outcome::answers::waits_to_hear` meets its contract: there is a site that is short, so its number is below the width.
 use Prim.Native.Nat.{◌<◌}
 use mathlib.Core.Path.{sym, subst}
 use mathlib.Core.Bool.{not}

@@ -1,3 +1,4 @@
+-- `outcome::keeping::begun` meets its contract: the session as it was, but for its page.
 use Rattle.protocol.specs.Serve.{begun}
 use Rattle.outcome.proofs.Backward.{marks-begun}
 use Rattle.outcome.proofs.keeping.begun.Goals as goal

@@ -1,3 +1,4 @@
+-- `outcome::keeping::closed` meets its contract.
 use Rattle.codec.specs.Tabulate.{tabulate}
 use Rattle.protocol.specs.State.{no_page, closed}
 use Rattle.outcome.proofs.keeping.closed.Goals as goal

@@ -1,3 +1,4 @@
+-- `outcome::keeping::ended` meets its contract: a closed session's page.
 use mathlib.Core.Path.{ap}
 use Rattle.protocol.specs.State.{Session, closed, with_page}
 use Rattle.parts.specs.Meaning.{as_session}

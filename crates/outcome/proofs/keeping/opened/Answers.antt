@@ -1,3 +1,4 @@
+-- `outcome::keeping::opened` meets its contract: a closed session, but for what is set.
 use mathlib.Core.Path.{ap}
 use mathlib.Core.Bool.{true}
 use Rattle.protocol.specs.State.{Session, closed, opened}

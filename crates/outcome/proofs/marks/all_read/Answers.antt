@@ -1,3 +1,4 @@
+-- `outcome::marks::all_read` meets its contract: `all` says it of the marks from place i on.
 use mathlib.Core.Path.{◌≡◌, ap, ◌∙◌}
 use native.Mathlib.Omega.{arith}
 use Rattle.protocol.specs.Needs.{all_read}

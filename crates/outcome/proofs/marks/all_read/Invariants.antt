@@ -5,7 +5,6 @@ use Rattle.protocol.specs.Needs.{all_read}
 use Rattle.parts.proofs.Marks.{from_to, mark_of}
 use Rattle.outcome.proofs.marks.all_read.Given as goal
 
--- `outcome::marks::all_read` meets its contract: `all` says it of the marks from place i on.
 abbrev pub invariant-loop-i : goal.invariant-loop-i
 invariant-loop-i l = (l.i ≤ l.count) × ((keys : List ℕ) → l.all ≡ all_read (from_to l.i l.count (mark_of keys l.marks)))
 

@@ -4,7 +4,6 @@ use Rattle.protocol.specs.Needs.{awaited}
 use Rattle.parts.proofs.Marks.{from_to, mark_of}
 use Rattle.outcome.proofs.marks.awaited.Given as goal
 
--- `outcome::marks::awaited` meets its contract: `any` says it of the marks from place i on.
 abbrev pub invariant-loop-i : goal.invariant-loop-i
 invariant-loop-i l = (l.i ≤ l.count) × (l.any ≡ awaited l.k (from_to l.i l.count (mark_of l.keys l.marks)))
 

@@ -1,3 +1,4 @@
+-- `outcome::marks::distinct` meets its contract: `all` says it of the keys from place i on.
 use mathlib.Core.Path.{◌≡◌, ap, ◌∙◌}
 use Prim.Native.Nat.{◌+◌, ◌-◌}
 use native.Mathlib.Omega.{arith}

@@ -5,7 +5,6 @@ use Rattle.protocol.specs.Needs.{distinct}
 use Rattle.parts.proofs.Marks.{from_to}
 use Rattle.outcome.proofs.marks.distinct.Given as goal
 
--- `outcome::marks::distinct` meets its contract: `all` says it of the keys from place i on.
 abbrev pub invariant-loop-i : goal.invariant-loop-i
 invariant-loop-i l = (l.i ≤ l.count) × (l.all ≡ distinct (from_to l.i l.count (λ j. get_or l.keys j 0)))
 

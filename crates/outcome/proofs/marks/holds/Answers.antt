@@ -1,3 +1,4 @@
+-- `outcome::marks::holds` meets its contract: `any` says it of the keys from place i on.
 use mathlib.Core.Path.{◌≡◌}
 use native.Mathlib.Omega.{arith}
 use Rattle.outcome.proofs.Backward.{from_none, from_back}

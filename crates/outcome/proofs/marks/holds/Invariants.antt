@@ -5,7 +5,6 @@ use Rattle.codec.specs.Lists.{has}
 use Rattle.parts.proofs.Marks.{from_to}
 use Rattle.outcome.proofs.marks.holds.Given as goal
 
--- `outcome::marks::holds` meets its contract: `any` says it of the keys from place i on.
 abbrev pub invariant-loop-i : goal.invariant-loop-i
 invariant-loop-i l = (l.from ≤ l.i) × (l.i ≤ l.count) × (l.any ≡ has (from_to l.i l.count (λ j. get_or l.keys j 0)) l.k)
 

@@ -1,3 +1,4 @@
+-- `outcome::marks::read` meets its contract: the first i places are marked.
 use mathlib.Core.Path.{refl, sym, ◌∙◌}
 use mathlib.Core.Bool.{false, ◌||◌}
 use native.Mathlib.Omega.{arith}

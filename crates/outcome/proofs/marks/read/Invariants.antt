@@ -5,7 +5,6 @@ use lib.Dec.{eqb}
 use lib.ListN.{length, get_or}
 use Rattle.outcome.proofs.marks.read.Given as goal
 
--- `outcome::marks::read` meets its contract: the first i places are marked.
 abbrev pub invariant-loop-i : goal.invariant-loop-i
 invariant-loop-i l = (l.i ≤ l.count) × (length l.read ≡ 8) × ((j : ℕ) → j < l.i → get_or l.read j false ≡ (get_or l.marks j false || eqb (get_or l.keys j 0) l.k))
 

@@ -1,3 +1,4 @@
+-- `outcome::raising::raised` meets its contract: the session says the same but for its vector.
 use mathlib.Core.Path.{ap}
 use Rattle.protocol.specs.State.{with_vec}
 use Rattle.parts.specs.Meaning.{as_session}

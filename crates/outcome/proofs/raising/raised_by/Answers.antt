@@ -1,9 +1,9 @@
+-- `outcome::raising::raised_by` meets its contract: nothing was found, or the session was lent.
 use mathlib.Core.Path.{◌∙◌}
 use borrow.Author.Tests.{not-true, not-false}
 use Rattle.protocol.specs.Record.{raised_by}
 use Rattle.outcome.proofs.raising.raised_by.Goals as goal
 
--- `outcome::raising::raised_by` meets its contract: nothing was found, or the session was lent.
 pub returns-then-not-found : goal.returns-then-not-found
 unfolding raised_by
 returns-then-not-found c = rw (not-true _ c.if-not-found.true)

@@ -1,3 +1,4 @@
+-- `parts::channels::first` meets its contract, by what its callees ensure.
 use mathlib.Core.Path.{◌∙◌}
 use Rattle.parts.proofs.channels.first.Goals as goal
 

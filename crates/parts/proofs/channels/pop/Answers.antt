@@ -1,3 +1,4 @@
+-- `parts::channels::pop` meets its contract: the front goes on by one, and one less waits.
 use mathlib.Core.Path.{◌∙◌}
 use Rattle.parts.specs.Channel.{popped}
 use Rattle.parts.proofs.channels.pop.Goals as goal

@@ -1,3 +1,4 @@
+-- `parts::channels::push` meets its contract: the message is stored behind the last, and one more waits.
 use mathlib.Core.Path.{◌∙◌}
 use Rattle.parts.specs.Channel.{pushed}
 use Rattle.parts.proofs.channels.push.Goals as goal

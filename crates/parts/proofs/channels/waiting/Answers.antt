@@ -1,3 +1,4 @@
+-- `parts::channels::waiting` meets its contract, by its one load.
 use borrow.Author.Rules.{rules}
 use Rattle.parts.specs.Channel.{wait_in}
 use Rattle.parts.proofs.channels.waiting.Goals as goal

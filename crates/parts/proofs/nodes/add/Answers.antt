@@ -1,3 +1,4 @@
+-- `parts::nodes::add` meets its contract: a record at the first free place, and one more held.
 use mathlib.Core.Path.{◌∙◌}
 use Rattle.parts.proofs.nodes.add.Goals as goal
 

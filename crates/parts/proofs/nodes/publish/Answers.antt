@@ -1,3 +1,4 @@
+-- `parts::nodes::publish` meets its contract: the entry is set, and the message stored.
 use Prim.Native.Nat.{◌+◌, ◌*◌}
 use mathlib.Core.Path.{◌∙◌}
 use native.Mathlib.Omega.{arith}

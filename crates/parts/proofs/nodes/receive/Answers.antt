@@ -1,3 +1,4 @@
+-- `parts::nodes::receive` meets its contract: the entry becomes the later stamp, and the message is stored.
 use Prim.Native.Nat.{◌+◌, ◌*◌}
 use mathlib.Core.Path.{◌∙◌}
 use native.Mathlib.Omega.{arith}

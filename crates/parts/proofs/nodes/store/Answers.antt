@@ -1,3 +1,4 @@
+-- `parts::nodes::store` meets its contract: an update is added, a heartbeat is not.
 use mathlib.Core.Path.{sym, ap, ◌∙◌, subst}
 use native.Mathlib.Omega.{arith}
 use Rattle.record.specs.RecordBytes.{put_message}

@@ -1,3 +1,4 @@
+-- `parts::sessions::load` meets its contract: each field is what its load ensures, and of the keys and marks only those in use count.
 use mathlib.Core.Path.{ap, ◌∙◌}
 use native.Mathlib.Omega.{arith}
 use lib.ListN.{get_or}

@@ -1,3 +1,4 @@
+-- `parts::sessions::load_marks` meets its contract: the first i marks are loaded.
 use mathlib.Core.Bool.{false}
 use mathlib.Core.Path.{ap}
 use native.Mathlib.Omega.{arith}

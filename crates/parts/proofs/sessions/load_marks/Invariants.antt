@@ -6,7 +6,6 @@ use lib.Dec.{eqb}
 use Rattle.codec.specs.Le.{load}
 use Rattle.parts.proofs.sessions.load_marks.Given as goal
 
--- `parts::sessions::load_marks` meets its contract: the first i marks are loaded.
 abbrev pub invariant-loop-i : goal.invariant-loop-i
 invariant-loop-i l = (l.i ≤ 8) × (length l.marks ≡ 8) × ((k : ℕ) → k < l.i → get_or l.marks k false ≡ eqb (load 1 l.b (16 + k)) 1)
 

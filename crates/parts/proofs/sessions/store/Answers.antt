@@ -1,3 +1,4 @@
+-- `parts::sessions::store` meets its contract: the head, the vectors and the marks are stored, the last first.
 use mathlib.Core.Path.{◌∙◌}
 use Rattle.parts.specs.Session.{put_session}
 use Rattle.parts.proofs.sessions.store.Goals as goal

@@ -1,3 +1,4 @@
+-- `parts::sessions::store_head` meets its contract: four stores, the last first.
 use mathlib.Core.Path.{◌∙◌}
 use Rattle.codec.proofs.Tabulate.{tab_length}
 use Rattle.parts.proofs.sessions.store_head.Goals as goal

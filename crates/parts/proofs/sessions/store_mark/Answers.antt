@@ -1,3 +1,4 @@
+-- `parts::sessions::store_mark` meets its contract, by its two stores.
 use mathlib.Core.Path.{◌∙◌}
 use Rattle.parts.proofs.sessions.store_mark.Goals as goal
 

@@ -1,3 +1,4 @@
+-- `parts::sessions::store_marks` meets its contract: what is left to do is to put the marks from i on.
 use mathlib.Core.Path.{refl, sym, ◌∙◌}
 use native.Mathlib.Omega.{arith}
 use Rattle.parts.proofs.Marks.{mark_of, marks_all, marks_none, marks-step}

@@ -6,7 +6,6 @@ use Rattle.parts.specs.Session.{put_marks}
 use Rattle.parts.proofs.Marks.{mark_of, from_to}
 use Rattle.parts.proofs.sessions.store_marks.Given as goal
 
--- `parts::sessions::store_marks` meets its contract: what is left to do is to put the marks from i on.
 abbrev pub invariant-loop-i : goal.invariant-loop-i
 invariant-loop-i l = (l.i ≤ l.count) × (length l.b ≡ length l.initial.b) × (put_marks l.b l.i (from_to l.i l.count (mark_of l.keys l.marks)) ≡ put_marks l.initial.b 0 (tabulate l.count (mark_of l.keys l.marks)))
 

@@ -1,3 +1,4 @@
+-- `protocol::limits::partition_of` meets its contract, for each literal.
 use mathlib.Core.Path.{◌≡◌}
 use native.Mathlib.Omega.{arith}
 use Rattle.protocol.proofs.limits.partition_of.Goals as goal

@@ -1,3 +1,4 @@
+-- `record::bytes::is_update` meets its contract, variant by variant.
 use mathlib.Core.Path.{sym, ap}
 use mathlib.Core.List.{[], ◌∷◌}
 use Rattle.protocol.specs.Needs.{front_updates}

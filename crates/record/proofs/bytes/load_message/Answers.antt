@@ -1,3 +1,4 @@
+-- `record::bytes::load_message` meets its contract, by the kind that stands there.
 use mathlib.Core.Path.{sym, ◌∙◌, ap}
 use borrow.Author.Tests.{ne_eqb}
 use Rattle.protocol.specs.Record.{Update}
@@ -8,8 +9,8 @@ pub returns-then-load_u8-eq-UPDATE : goal.returns-then-load_u8-eq-UPDATE
 unfolding message_at
 returns-then-load_u8-eq-UPDATE c =
     let got = c.load_record-r in
-    let isUpdate = sym c.load_u8.ensures ∙ c.if-load_u8-eq-UPDATE.true in
-    rw isUpdate (ap Update got.ensures)
+    let is_update = sym c.load_u8.ensures ∙ c.if-load_u8-eq-UPDATE.true in
+    rw is_update (ap Update got.ensures)
 
 pub returns-else-load_u8-eq-UPDATE : goal.returns-else-load_u8-eq-UPDATE
 unfolding message_at

@@ -1,3 +1,4 @@
+-- `record::bytes::load_record` meets its contract: each field is what its load ensures.
 use mir.ValLaws.{to_z-of_z}
 use mir.Syntax.{w32}
 use Rattle.record.specs.RecordBytes.{record_at}

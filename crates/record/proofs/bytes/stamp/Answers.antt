@@ -1,3 +1,4 @@
+-- `record::bytes::stamp` meets its contract, variant by variant.
 use mathlib.Core.Path.{sym, ap}
 use Rattle.protocol.specs.Record.{stamp_in}
 use Rattle.record.proofs.Meaning.{message_told}

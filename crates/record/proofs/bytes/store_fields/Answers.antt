@@ -1,3 +1,4 @@
+-- `record::bytes::store_fields` meets its contract: seven stores, the last first.
 use native.Mathlib.Nat.{add-zero}
 use mathlib.Core.Path.{◌∙◌}
 use borrow.Author.Rules.{rules}

@@ -1,3 +1,4 @@
+-- `record::bytes::store_message` meets its contract, variant by variant.
 use mathlib.Core.Path.{◌∙◌}
 use Rattle.vector.proofs.Entries.{entry-zeros}
 use Rattle.record.specs.RecordBytes.{put_message}

@@ -1,3 +1,4 @@
+-- `record::formed::heartbeat_formed` meets its contract: behind a key of 0 the comparisons with it are those with 0.
 use mathlib.Core.Path.{◌≡◌, refl, sym, ◌∙◌}
 use mathlib.Core.Bool.{Bool}
 use mathlib.Core.List.{[], ◌∷◌}
@@ -16,7 +17,6 @@ use borrow.Author.Tests.{lt-leb, ne_eqb}
 use lib.Dec.{leb, eqb}
 use Rattle.record.proofs.formed.heartbeat_formed.Goals as goal
 
--- `record::formed::heartbeat_formed` meets its contract: behind a key of 0 the comparisons with it are those with 0.
 leb_zero : (n : ℕ) → leb n 0 ≡ eqb n 0
 leb_zero zero = refl
 leb_zero (suc n) = lt-leb (suc n) 0 (omega arith) ∙ sym (ne_eqb (suc n) 0 (omega arith))

@@ -1,3 +1,4 @@
+-- `record::formed::message_formed` meets its contract, by the kind that stands there.
 use mathlib.Core.Path.{sym, ◌∙◌}
 use borrow.Author.Tests.{ne_eqb}
 use Rattle.record.specs.RecordBytes.{message_at}
@@ -8,8 +9,8 @@ use Rattle.record.proofs.formed.message_formed.Goals as goal
 pub returns-then-kind-eq1 : goal.returns-then-kind-eq1
 unfolding message_formed message_at
 returns-then-kind-eq1 c =
-    let isUpdate = sym c.load_u8-kind.ensures ∙ c.if-kind-eq1.true in
-    rw isUpdate c.update_formed.ensures
+    let is_update = sym c.load_u8-kind.ensures ∙ c.if-kind-eq1.true in
+    rw is_update c.update_formed.ensures
 
 pub returns-then-kind-ne2 : goal.returns-then-kind-ne2
 unfolding message_formed message_at
@@ -20,5 +21,5 @@ returns-then-kind-ne2 c =
 pub returns : goal.returns
 unfolding message_formed message_at message_lawful
 returns c =
-    let isBeat = sym c.load_u8-kind.ensures ∙ c.if-kind-ne2.false in
-    rw (isBeat, c.heartbeat_formed.ensures, c.stamp_lawful.ensures, c.load_u64.ensures)
+    let is_beat = sym c.load_u8-kind.ensures ∙ c.if-kind-ne2.false in
+    rw (is_beat, c.heartbeat_formed.ensures, c.stamp_lawful.ensures, c.load_u64.ensures)

@@ -1,3 +1,4 @@
+-- `record::formed::record_formed` meets its contract, by the kind that stands there.
 use mathlib.Core.Path.{sym, ◌∙◌}
 use borrow.Author.Tests.{eq-eqb, ne_eqb}
 use Rattle.record.specs.RecordFormed.{record_formed}

@@ -1,3 +1,4 @@
+-- `record::formed::record_in_range` meets its contract: the test that fails, or the last one where all others were passed.
 use mathlib.Core.Path.{sym, ap, ◌∙◌}
 use mir.Syntax.{w32}
 use mir.Facts.{to_z-of_z}
@@ -36,9 +37,9 @@ unfolding record_in_range record_at
 returns c =
     let got = c.load_level in
     let known = ap level_lawful (to_z-of_z {w = w32} (record { sfits = got.type_inv }) ∙ got.ensures) in
-    let yesKey = lt-ltb _ 64 (rw c.load_u8.ensures at c.if-load_u8-ge64.false) in
-    let yesSource = lt-ltb _ _ (rw c.load_u8-2.ensures at c.if-setting-load_u8.false) in
-    let yesQuality = lt-ltb _ 3 (rw c.load_u8-3.ensures at c.if-load_u8-ge3.false) in
-    let yesLevel = sym known ∙ passes c.level_lawful.ensures c.if-not-level_lawful.false in
-    let yesStamp = rw c.load_u64.ensures at (passes c.stamp_lawful.ensures c.if-not-stamp_lawful.false) in
-    c.vector_formed.ensures ∙ sym (every_last _ (yesKey, (yesSource, (yesQuality, (yesLevel, (yesStamp, tt))))))
+    let yes_key = lt-ltb _ 64 (rw c.load_u8.ensures at c.if-load_u8-ge64.false) in
+    let yes_source = lt-ltb _ _ (rw c.load_u8-2.ensures at c.if-setting-load_u8.false) in
+    let yes_quality = lt-ltb _ 3 (rw c.load_u8-3.ensures at c.if-load_u8-ge3.false) in
+    let yes_level = sym known ∙ passes c.level_lawful.ensures c.if-not-level_lawful.false in
+    let yes_stamp = rw c.load_u64.ensures at (passes c.stamp_lawful.ensures c.if-not-stamp_lawful.false) in
+    c.vector_formed.ensures ∙ sym (every_last _ (yes_key, (yes_source, (yes_quality, (yes_level, (yes_stamp, tt))))))

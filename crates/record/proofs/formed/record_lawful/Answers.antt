@@ -1,3 +1,4 @@
+-- `record::formed::record_lawful` meets its contract, by the partition of the key and the test of the fields.
 use mathlib.Core.Path.{◌≡◌}
 use mathlib.Core.Bool.{true}
 use lib.Dec.{eqb}

@@ -1,3 +1,4 @@
+-- `record::formed::update_formed` meets its contract, by the source that stands there.
 use mathlib.Core.Path.{sym, ◌∙◌}
 use borrow.Author.Tests.{eq-eqb, ne_eqb}
 use Rattle.record.specs.RecordBytes.{record_at}

@@ -1,3 +1,4 @@
+-- `record::times::entry_lawful` meets its contract, by the limit on either side of its test.
 use mathlib.Core.Path.{◌≡◌, refl, sym, ◌∙◌}
 use mathlib.Core.Bool.{Bool, true, false, cond}
 use Prim.Native.Nat.{ℕ}
@@ -11,7 +12,6 @@ use Rattle.protocol.specs.Meaning.{setting_of}
 use Rattle.record.specs.Ranges.{stamp_lawful}
 use Rattle.record.proofs.times.entry_lawful.Goals as goal
 
--- `record::times::entry_lawful` meets its contract, by the limit on either side of its test.
 below_one : (x : ℕ) → ltb x 1 ≡ eqb x 0
 below_one x = go (ℕ_discrete x 0)
   where

@@ -1,3 +1,4 @@
+-- `record::times::entry_limit` meets its contract, on either side of its test.
 use borrow.Author.Tests.{lt-ltb, le-ltb}
 use Rattle.protocol.specs.Times.{top_of}
 use Rattle.record.proofs.times.entry_limit.Goals as goal

@@ -1,3 +1,4 @@
+-- `record::times::none_above` meets its contract: none of the first i entries is above x.
 use mathlib.Core.Path.{◌≡◌, sym}
 use native.Mathlib.Omega.{arith}
 use borrow.Author.Tests.{le-leb, lt-leb}

@@ -6,7 +6,6 @@ use Rattle.codec.specs.Below.{all_below}
 use Rattle.vector.specs.Entries.{load_vec}
 use Rattle.record.proofs.times.none_above.Given as goal
 
--- `record::times::none_above` meets its contract: none of the first i entries is above x.
 abbrev pub invariant-loop-i : goal.invariant-loop-i
 invariant-loop-i l = (l.i ≤ 4) × (all_below l.i (λ k. leb (load_vec l.b l.at k) l.x) ≡ true)
 

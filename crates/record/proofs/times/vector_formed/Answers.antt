@@ -1,3 +1,4 @@
+-- `record::times::vector_formed` meets its contract: what was loaded are the entries.
 use Rattle.record.proofs.times.vector_formed.Goals as goal
 
 pub returns : goal.returns

@@ -1,3 +1,4 @@
+-- `record::times::vector_lawful` meets its contract: the first i entries are lawful.
 use mathlib.Core.Path.{◌≡◌, sym}
 use native.Mathlib.Omega.{arith}
 use Rattle.codec.proofs.Tests.{fails, passes}

@@ -8,7 +8,6 @@ use Rattle.protocol.specs.Meaning.{setting_of}
 use Rattle.record.specs.Ranges.{stamp_lawful}
 use Rattle.record.proofs.times.vector_lawful.Given as goal
 
--- `record::times::vector_lawful` meets its contract: the first i entries are lawful.
 abbrev pub invariant-loop-i : goal.invariant-loop-i
 invariant-loop-i l = (l.i ≤ 4) × (all_below l.i (λ k. cond (ltb k l.setting.sites) (stamp_lawful (setting_of l.setting) (entry l.e k)) (eqb (entry l.e k) 0)) ≡ true)
 

@@ -1,3 +1,4 @@
+-- `steps::answers::store_answer` meets its contract: the six stores one after the other.
 use native.Mathlib.Nat.{add-zero}
 use mathlib.Core.Path.{◌∙◌}
 use mir.Syntax.{w32}

@@ -1,3 +1,4 @@
+-- `steps::effects::carry_out` meets its contract, effect by effect.
 use mathlib.Core.Path.{sym, ◌∙◌}
 use native.Mathlib.Omega.{arith}
 use Rattle.table.specs.Put.{put_changes}

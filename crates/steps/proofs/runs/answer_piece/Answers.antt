@@ -1,3 +1,4 @@
+-- `steps::runs::answer_piece` meets its contract: the piece that the reader gives, and where its answer goes.
 use Rattle.steps.proofs.Kept.{piece_answered_lem}
 use Rattle.steps.proofs.runs.answer_piece.Goals as goal
 

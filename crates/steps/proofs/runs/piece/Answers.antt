@@ -1,3 +1,4 @@
+-- `steps::runs::piece` meets its contract, by the piece's length.
 use mathlib.Core.Path.{sym, ap, ◌∙◌}
 use Rattle.steps.specs.Step.{gives}
 use Rattle.steps.proofs.Kept.{piece_whole, piece_short}

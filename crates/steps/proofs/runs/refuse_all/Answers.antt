@@ -1,3 +1,4 @@
+-- `steps::runs::refuse_all` meets its contract: each piece as its turn, whatever the table is.
 use native.Mathlib.Omega.{arith}
 use mathlib.Core.Path.{◌≡◌, refl}
 use Rattle.steps.specs.Run.{piece_refused}

@@ -5,7 +5,6 @@ use lib.ListN.{length}
 use Rattle.steps.specs.Run.{ran, run_by, piece_refused}
 use Rattle.steps.proofs.runs.refuse_all.Given as goal
 
--- `steps::runs::refuse_all` meets its contract: each piece as its turn, whatever the table is.
 abbrev pub invariant-loop-i : goal.invariant-loop-i
 invariant-loop-i l = (l.i ≤ l.n) × (length l.b ≡ length l.initial.b) × ((t : List ℕ) → ran t l.b ≡ run_by (piece_refused l.number) l.i t l.es l.initial.b)
 

@@ -1,3 +1,4 @@
+-- `steps::runs::refuse_piece` meets its contract: the number by the piece's length, and where the answer goes.
 use mathlib.Core.Path.{ap, ◌∙◌}
 use Rattle.protocol.specs.declared.Answer.TheVariants.{Refused}
 use Rattle.protocol.specs.Event.{plain}

@@ -1,3 +1,4 @@
+-- `steps::runs::run` meets its contract: the table stays sound, so each piece is stepped as on a well-formed one.
 use native.Mathlib.Omega.{arith}
 use mathlib.Core.Path.{◌≡◌, refl}
 use Rattle.steps.specs.Run.{piece_call}

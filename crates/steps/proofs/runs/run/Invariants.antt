@@ -5,7 +5,6 @@ use Rattle.lawful.proofs.Steps.{Sound}
 use Rattle.steps.specs.Run.{ran, run_by, piece_call}
 use Rattle.steps.proofs.runs.run.Given as goal
 
--- `steps::runs::run` meets its contract: the table stays sound, so each piece is stepped as on a well-formed one.
 abbrev pub invariant-loop-i : goal.invariant-loop-i
 invariant-loop-i l = (l.i ≤ l.n) × Sound (length l.initial.t) l.t × (length l.b ≡ length l.initial.b) × (ran l.t l.b ≡ run_by piece_call l.i l.initial.t l.es l.initial.b)
 

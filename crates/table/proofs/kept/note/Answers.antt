@@ -1,3 +1,4 @@
+-- `table::kept::note` meets its contract: the node and its kept place are read, and the one byte is set in what is lent.
 use mathlib.Core.Path.{◌≡◌, ap, ◌∙◌}
 use native.Mathlib.Omega.{arith}
 use Rattle.codec.specs.Le.{put}

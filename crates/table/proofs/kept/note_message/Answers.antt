@@ -1,3 +1,4 @@
+-- `table::kept::note_message` meets its contract: an update is noted, a heartbeat is not.
 use mathlib.Core.Path.{sym, ap, subst, ◌∙◌}
 use Rattle.record.proofs.Meaning.{message_told}
 use Rattle.table.specs.Noted.{message_noted, Notable}

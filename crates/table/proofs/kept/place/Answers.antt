@@ -1,3 +1,4 @@
+-- `table::kept::place` meets its contract: one byte of what is lent.
 use mathlib.Core.Path.{◌∙◌}
 use Rattle.table.proofs.kept.place.Goals as goal
 

@@ -1,3 +1,4 @@
+-- `table::places::channel` meets its contract: it is the channel of the site's part.
 use mathlib.Core.Path.{ap, ◌∙◌}
 use Rattle.table.specs.Parts.{channel_of}
 use Rattle.table.proofs.places.channel.Goals as goal

@@ -1,3 +1,4 @@
+-- `table::places::channel_of` meets its contract: what is lent is the channel's bytes.
 use mathlib.Core.Path.{sym, ap, ◌∙◌}
 use lib.ListN.{length}
 use Rattle.table.proofs.Lent.{channel_lent}

@@ -1,3 +1,4 @@
+-- `table::places::kept` meets its contract: what is lent is the node's kept places.
 use mathlib.Core.Path.{sym, ap, ◌∙◌}
 use lib.ListN.{length}
 use Rattle.table.proofs.Lent.{kept_lent}

@@ -1,3 +1,4 @@
+-- `table::places::node` meets its contract: it is the node of the site's part.
 use mathlib.Core.Path.{ap, ◌∙◌}
 use Rattle.table.specs.Parts.{node_of}
 use Rattle.table.proofs.places.node.Goals as goal

@@ -1,3 +1,4 @@
+-- `table::places::node_of` meets its contract: what is lent is the node's bytes.
 use mathlib.Core.Path.{sym, ap, ◌∙◌}
 use lib.ListN.{length}
 use Rattle.table.proofs.Lent.{node_lent}

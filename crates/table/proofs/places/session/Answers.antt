@@ -1,3 +1,4 @@
+-- `table::places::session` meets its contract: what is lent is the session's bytes.
 use mathlib.Core.Path.{sym, ap, ◌∙◌}
 use lib.ListN.{length}
 use Rattle.table.proofs.Lent.{session_lent}

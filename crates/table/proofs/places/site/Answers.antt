@@ -1,3 +1,4 @@
+-- `table::places::site` meets its contract: what is lent is the site's bytes.
 use mathlib.Core.Path.{sym, ap, ◌∙◌}
 use lib.ListN.{length}
 use Rattle.table.proofs.Lent.{site_lent}

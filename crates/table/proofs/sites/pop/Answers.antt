@@ -1,3 +1,4 @@
+-- `table::sites::pop` meets its contract, by what comes back of the channel.
 use native.Mathlib.Omega.{arith}
 use borrow.Author.Rules.{rules}
 use Rattle.parts.specs.Channel.{popped}

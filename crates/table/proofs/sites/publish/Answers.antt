@@ -1,3 +1,4 @@
+-- `table::sites::publish` meets its contract, by what its two callees ensure.
 use mathlib.Core.Path.{◌∙◌}
 use native.Mathlib.Omega.{arith}
 use Rattle.record.specs.Meaning.{as_message}

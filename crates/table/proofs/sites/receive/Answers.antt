@@ -1,3 +1,4 @@
+-- `table::sites::receive` meets its contract, by what comes back of the node.
 use native.Mathlib.Omega.{arith}
 use borrow.Author.Rules.{rules}
 use Rattle.record.specs.Meaning.{as_message}

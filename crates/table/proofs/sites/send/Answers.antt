@@ -1,3 +1,4 @@
+-- `table::sites::send` meets its contract: the message is in the first d channels.
 use mathlib.Core.Path.{◌≡◌, refl, sym, ◌∙◌}
 use native.Mathlib.Omega.{arith}
 use Rattle.record.specs.Meaning.{as_message}

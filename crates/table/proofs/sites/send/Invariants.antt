@@ -5,7 +5,6 @@ use Rattle.record.specs.Meaning.{as_message}
 use Rattle.table.specs.Put.{sent_to}
 use Rattle.table.proofs.sites.send.Given as goal
 
--- `table::sites::send` meets its contract: the message is in the first d channels.
 abbrev pub invariant-loop-d : goal.invariant-loop-d
 invariant-loop-d l = (l.d ≤ l.n) × (length l.site ≡ length l.initial.site) × (l.site ≡ sent_to l.d l.m l.p (as_message l.x) l.initial.site)
 

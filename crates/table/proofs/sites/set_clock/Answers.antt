@@ -1,3 +1,4 @@
+-- `table::sites::set_clock` meets its contract, by what comes back of the node.
 use Rattle.parts.specs.Node.{clock_set}
 use Rattle.table.proofs.Lent.{node_back}
 use Rattle.table.proofs.sites.set_clock.Goals as goal

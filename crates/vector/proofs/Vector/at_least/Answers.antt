@@ -1,3 +1,4 @@
+-- `vector::Vector::at_least` meets its contract, by what its two callees ensure.
 use mathlib.Core.Path.{refl, ◌∙◌}
 use Rattle.vector.specs.Entries.{entry}
 use Rattle.vector.specs.Meaning.{as_vec}

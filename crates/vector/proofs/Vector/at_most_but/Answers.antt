@@ -1,3 +1,4 @@
+-- `vector::Vector::at_most_but` meets its contract: `all` says it of the first i entries.
 use mathlib.Core.Path.{◌≡◌, sym}
 use native.Mathlib.Omega.{arith}
 use Rattle.codec.proofs.Below.{all_below_none, all_below-step}

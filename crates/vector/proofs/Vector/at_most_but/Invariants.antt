@@ -6,7 +6,6 @@ use Rattle.codec.specs.Below.{all_below}
 use Rattle.vector.specs.Entries.{entry}
 use Rattle.vector.proofs.Vector.at_most_but.Given as goal
 
--- `vector::Vector::at_most_but` meets its contract: `all` says it of the first i entries.
 abbrev pub invariant-loop-i : goal.invariant-loop-i
 invariant-loop-i l = (l.i ≤ 4) × (l.all ≡ all_below l.i (λ k. eqb k l.m || leb (entry l.u k) (entry l.v k)))
 

@@ -1,3 +1,4 @@
+-- `vector::Vector::first_short_but` meets its contract: at no site below i is the other short.
 use mathlib.Core.Path.{◌≡◌, sym, ◌∙◌}
 use native.Mathlib.Omega.{arith}
 use Rattle.codec.proofs.Below.{all_below_none, all_below_more, first_not_all, first_not_is}

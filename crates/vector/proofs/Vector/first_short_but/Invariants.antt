@@ -6,7 +6,6 @@ use Rattle.codec.specs.Below.{all_below}
 use Rattle.vector.specs.Entries.{entry}
 use Rattle.vector.proofs.Vector.first_short_but.Given as goal
 
--- `vector::Vector::first_short_but` meets its contract: at no site below i is the other short.
 abbrev pub invariant-loop-i : goal.invariant-loop-i
 invariant-loop-i l = (l.i ≤ 4) × (all_below l.i (λ k. eqb k l.m || leb (entry l.u k) (entry l.v k)) ≡ true)
 

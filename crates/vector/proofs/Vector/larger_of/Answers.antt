@@ -1,3 +1,4 @@
+-- `vector::Vector::larger_of` meets its contract: the first i entries are the larger ones.
 use native.Mathlib.Omega.{arith}
 use borrow.Author.Count.{below_none}
 use borrow.Author.Rules.{rules}

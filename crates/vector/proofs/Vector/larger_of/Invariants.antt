@@ -6,7 +6,6 @@ use Rattle.vector.specs.Entries.{entry}
 use Rattle.vector.proofs.Entries.{Agree}
 use Rattle.vector.proofs.Vector.larger_of.Given as goal
 
--- `vector::Vector::larger_of` meets its contract: the first i entries are the larger ones.
 abbrev pub invariant-loop-i : goal.invariant-loop-i
 invariant-loop-i l = (l.i ≤ 4) × (length l.w ≡ 4) × Agree l.i (entry l.w) (larger (entry l.u) (entry l.v))
 

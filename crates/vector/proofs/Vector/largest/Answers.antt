@@ -1,3 +1,4 @@
+-- `vector::Vector::largest` meets its contract: x is the largest of the first i entries.
 use mathlib.Core.Path.{◌≡◌, sym}
 use native.Mathlib.Omega.{arith}
 use Rattle.vector.specs.Vec.{largest}

@@ -4,7 +4,6 @@ use Rattle.vector.specs.Vec.{largest_of}
 use Rattle.vector.specs.Entries.{entry}
 use Rattle.vector.proofs.Vector.largest.Given as goal
 
--- `vector::Vector::largest` meets its contract: x is the largest of the first i entries.
 abbrev pub invariant-loop-i : goal.invariant-loop-i
 invariant-loop-i l = (l.i ≤ 4) × (l.x ≡ largest_of l.i (entry l.u))
 

@@ -1,3 +1,4 @@
+-- `vector::Vector::raised` meets its contract, by what its two callees ensure.
 use mathlib.Core.Path.{◌∙◌}
 use Rattle.vector.specs.Vec.{raised}
 use Rattle.vector.proofs.Vector.raised.Goals as goal

@@ -1,3 +1,4 @@
+-- `vector::Vector::with_entry` meets its contract: a store of one entry.
 use native.Mathlib.Omega.{arith}
 use borrow.Author.Rules.{rules}
 use Rattle.vector.proofs.Entries.{entry_set}

@@ -1,6 +1,6 @@
+-- `vector::Vector::zero` meets its contract, by computing.
 use Rattle.vector.proofs.Entries.{entry-zeros}
 use Rattle.vector.proofs.Vector.zero.Goals as goal
 
--- `vector::Vector::zero` meets its contract, by computing.
 pub returns : goal.returns
 returns c = entry-zeros
