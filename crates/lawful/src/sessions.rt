@@ -10,6 +10,9 @@ use crate::pages;
 use protocol::limits::Setting;
 use record::times;
 
+// A flag or a mark is below this number (R21).
+const FLAGS: u8 = 2;
+
 // R21: the n flags or marks from `at` are 0 or 1.
 fn flags_formed(b: &[u8], at: usize, n: usize) -> bool
     requires { at + n ≤ length b.now }
@@ -17,7 +20,7 @@ fn flags_formed(b: &[u8], at: usize, n: usize) -> bool
 {
     let mut i = 0;
     while i < n {
-        if 2 <= codec::load_u8(b, at + i) {
+        if FLAGS <= codec::load_u8(b, at + i) {
             return false;
         }
         i += 1;

@@ -11,6 +11,11 @@ use crate::times;
 use protocol::limits;
 use protocol::limits::Setting;
 
+// Qualities are below this number (R7).
+const QUALITIES: u8 = 3;
+// The kind of a heartbeat (R17).
+const HEARTBEAT: u8 = 2;
+
 // The fields of the record at `at`. Each is loaded where it is tested, so that a lawful one costs one comparison.
 pub fn record_in_range(b: &[u8], at: usize, setting: Setting) -> bool
     requires { at + 48 ≤ length b.now }
@@ -22,7 +27,7 @@ pub fn record_in_range(b: &[u8], at: usize, setting: Setting) -> bool
     if setting.sites <= codec::load_u8(b, at + 1) {
         return false;
     }
-    if 3 <= codec::load_u8(b, at + 2) {
+    if QUALITIES <= codec::load_u8(b, at + 2) {
         return false;
     }
     if !limits::level_lawful(codec::load_level(b, at + 4)) {
@@ -92,7 +97,7 @@ pub fn message_formed(b: &[u8], at: usize, setting: Setting, i: u8, p: u8) -> bo
     if kind == 1 {
         return update_formed(b, at, setting, i, p);
     }
-    if kind != 2 {
+    if kind != HEARTBEAT {
         return false;
     }
     heartbeat_formed(b, at, i) & times::stamp_lawful(codec::load_u64(b, at + 8), setting)

@@ -9,15 +9,15 @@ use Rattle.lawful.proofs.sessions.flags_formed.Goals as goal
 pub loop-i-init : goal.loop-i-init
 loop-i-init c = (omega arith, all_below_none _)
 
-pub returns-then-load_u8-ge2 : goal.returns-then-load_u8-ge2
+pub returns-then-load_u8-ge-FLAGS : goal.returns-then-load_u8-ge-FLAGS
 unfolding flags_at
-returns-then-load_u8-ge2 c =
-    let big = rw c.load_u8.ensures at c.if-load_u8-ge2.true in
+returns-then-load_u8-ge-FLAGS c =
+    let big = rw c.load_u8.ensures at c.if-load_u8-ge-FLAGS.true in
     sym (all_below_fails _ _ c.loop-i.i (omega arith) (le-ltb _ 2 big))
 
 pub loop-i-preserved : goal.loop-i-preserved
 loop-i-preserved c =
-    let small = rw c.load_u8.ensures at c.if-load_u8-ge2.false in
+    let small = rw c.load_u8.ensures at c.if-load_u8-ge-FLAGS.false in
     (omega arith, all_below_more c.loop-i.i _ c.loop-i.invariant.1 (lt-ltb _ 2 small))
 
 pub returns : goal.returns

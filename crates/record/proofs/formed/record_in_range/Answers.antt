@@ -17,9 +17,9 @@ pub returns-then-setting-load_u8 : goal.returns-then-setting-load_u8
 unfolding record_in_range record_at
 returns-then-setting-load_u8 c = sym (every_fails _ 1 (rw (← c.load_u8-2.ensures) (le-ltb _ _ c.if-setting-load_u8.true)))
 
-pub returns-then-load_u8-ge3 : goal.returns-then-load_u8-ge3
+pub returns-then-load_u8-ge-QUALITIES : goal.returns-then-load_u8-ge-QUALITIES
 unfolding record_in_range record_at
-returns-then-load_u8-ge3 c = sym (every_fails _ 2 (rw (← c.load_u8-3.ensures) (le-ltb _ 3 c.if-load_u8-ge3.true)))
+returns-then-load_u8-ge-QUALITIES c = sym (every_fails _ 2 (rw (← c.load_u8-3.ensures) (le-ltb _ 3 c.if-load_u8-ge-QUALITIES.true)))
 
 pub returns-then-not-level_lawful : goal.returns-then-not-level_lawful
 unfolding record_in_range record_at
@@ -39,7 +39,7 @@ returns c =
     let known = ap level_lawful (to_z-of_z {w = w32} (record { sfits = got.type_inv }) ∙ got.ensures) in
     let yes_key = lt-ltb _ 64 (rw c.load_u8.ensures at c.if-load_u8-ge64.false) in
     let yes_source = lt-ltb _ _ (rw c.load_u8-2.ensures at c.if-setting-load_u8.false) in
-    let yes_quality = lt-ltb _ 3 (rw c.load_u8-3.ensures at c.if-load_u8-ge3.false) in
+    let yes_quality = lt-ltb _ 3 (rw c.load_u8-3.ensures at c.if-load_u8-ge-QUALITIES.false) in
     let yes_level = sym known ∙ passes c.level_lawful.ensures c.if-not-level_lawful.false in
     let yes_stamp = rw c.load_u64.ensures at (passes c.stamp_lawful.ensures c.if-not-stamp_lawful.false) in
     c.vector_formed.ensures ∙ sym (every_last _ (yes_key, (yes_source, (yes_quality, (yes_level, (yes_stamp, tt))))))
