@@ -13,8 +13,8 @@ use protocol::limits::Setting;
 
 // Qualities are below this number (R7).
 const QUALITIES: u8 = 3;
-// The kind of a heartbeat (R17).
-const HEARTBEAT: u8 = 2;
+// Kinds are 1, an update, and this one, a heartbeat (R17).
+const LAST_KIND: u8 = 2;
 
 // The fields of the record at `at`. Each is loaded where it is tested, so that a lawful one costs one comparison.
 pub fn record_in_range(b: &[u8], at: usize, setting: Setting) -> bool
@@ -97,7 +97,7 @@ pub fn message_formed(b: &[u8], at: usize, setting: Setting, i: u8, p: u8) -> bo
     if kind == 1 {
         return update_formed(b, at, setting, i, p);
     }
-    if kind != HEARTBEAT {
+    if kind != LAST_KIND {
         return false;
     }
     heartbeat_formed(b, at, i) & times::stamp_lawful(codec::load_u64(b, at + 8), setting)
