@@ -5,80 +5,65 @@ ghost use Rattle.table.specs.Parts.{Long};
 ghost use Rattle.table.specs.Decode.{decode};
 ghost use Rattle.lawful.specs.WellFormed.{well_formed};
 ghost use Rattle.outcome.specs.Marks.{keys_on};
-ghost use Rattle.outcome.specs.Decided.{outcome_of};
+ghost use Rattle.outcome.specs.Decided.{decided_of};
 ghost use Rattle.decision.specs.Answered.{answered};
 
 use crate::lookup;
 use outcome::{Decided, answers, keeping, marks, raising};
-use protocol::Answer;
-use vector::Vector;
+use protocol::{Answer, Reason};
 
 // BEGIN of a page of the first `count` keys, with the node of partition p as its coordinator.
-pub fn begin(t: &[u8], s: u8, p: u8, count: u8, keys: [u8; 8]) -> Decided
+pub fn begin(t: &[u8], s: u8, p: u8, count: u8, keys: [u8; 8]) -> Result<Decided, Reason>
     requires { Long t.now × T (well_formed t.now) × (s < 16) × (p < 4) × (count ≤ 8) }
-    ensures { outcome_of result ≡ answered (decode t.now) (BEGIN s p (keys_on keys count)) }
+    ensures { decided_of result ≡ answered (decode t.now) (BEGIN s p (keys_on keys count)) }
 {
-    let x = lookup::session(t, s);
-    if !x.open {
-        return answers::refused(12);
-    }
+    let x = lookup::opened(t, s)?;
     if x.paged {
-        return answers::refused(14);
+        return Err(Reason::PageOpen);
     }
     if !marks::distinct(keys, count as usize) {
-        return answers::refused(17);
+        return Err(Reason::KeyTwice);
     }
     let coordinator = lookup::heard(t, x.site, p);
-    answers::kept(Answer::Done, s, keeping::begun(x, coordinator, keys, count))
+    Ok(answers::kept(Answer::Done, s, keeping::begun(x, coordinator, keys, count)))
 }
 
 // R47, READ of key k: every entry of the node's vector is at least the page's, and then the newest candidate is shown. Where one is not it waits, for the lowest
 // such site (R51): no site is spared.
-pub fn read(t: &[u8], s: u8, k: u8) -> Decided
+pub fn read(t: &[u8], s: u8, k: u8) -> Result<Decided, Reason>
     requires { Long t.now × T (well_formed t.now) × (s < 16) }
-    ensures { outcome_of result ≡ answered (decode t.now) (READ s k) }
+    ensures { decided_of result ≡ answered (decode t.now) (READ s k) }
 {
-    let x = lookup::session(t, s);
-    if !x.open {
-        return answers::refused(12);
-    }
+    let x = lookup::opened(t, s)?;
     if !x.paged {
-        return answers::refused(15);
+        return Err(Reason::NoPageOpen);
     }
-    let keys = x.keys;
-    let marks = x.marks;
-    let count = x.count as usize;
-    if !marks::awaited(keys, marks, count, k) {
-        return answers::refused(16);
+    if !marks::awaited(x.keys, x.marks, x.count as usize, k) {
+        return Err(Reason::KeyNotAwaited);
     }
     let m = x.site;
     let page = x.snapshot;
     let p = lookup::partition(t, k);
     let heard = lookup::heard(t, m, p);
-    if !page.at_most(heard) {
-        return answers::waits_to_hear(page, heard, Vector::WIDTH);
-    }
+    answers::hears(page, heard, None)?;
     let found = lookup::newest(t, m, p, k, page);
-    answers::kept(answers::shown(found), s, keeping::read_on(x, k, found))
+    Ok(answers::kept(answers::shown(found), s, keeping::read_on(x, k, found)))
 }
 
 // R48, END of the page: raises the session by what the page gathered, which has no stamp of its own.
-pub fn end(t: &[u8], s: u8) -> Decided
+pub fn end(t: &[u8], s: u8) -> Result<Decided, Reason>
     requires { Long t.now × T (well_formed t.now) × (s < 16) }
-    ensures { outcome_of result ≡ answered (decode t.now) (END s) }
+    ensures { decided_of result ≡ answered (decode t.now) (END s) }
 {
-    let x = lookup::session(t, s);
-    if !x.open {
-        return answers::refused(12);
-    }
+    let mut x = lookup::opened(t, s)?;
     if !x.paged {
-        return answers::refused(15);
+        return Err(Reason::NoPageOpen);
     }
-    let marks = x.marks;
-    if !marks::all_read(marks, x.count as usize) {
-        return answers::refused(18);
+    if !marks::all_read(x.marks, x.count as usize) {
+        return Err(Reason::KeyUnread);
     }
     let gathered = x.gathered;
-    let raised = raising::lent(x, gathered, x.site, 0);
-    answers::kept(Answer::Done, s, keeping::ended(raised))
+    let site = x.site;
+    raising::raise(&mut x, gathered, site, 0);
+    Ok(answers::kept(Answer::Done, s, keeping::ended(x)))
 }

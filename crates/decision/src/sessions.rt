@@ -5,56 +5,46 @@ ghost use Rattle.protocol.specs.Event.{OPEN, CLOSE, GET};
 ghost use Rattle.table.specs.Parts.{Long, Whole};
 ghost use Rattle.table.specs.Decode.{decode};
 ghost use Rattle.lawful.specs.WellFormed.{well_formed};
-ghost use Rattle.outcome.specs.Decided.{outcome_of};
+ghost use Rattle.outcome.specs.Decided.{decided_of};
 ghost use Rattle.decision.specs.Answered.{answered};
 
 use crate::lookup;
 use outcome::{Decided, answers, keeping, raising};
-use protocol::Answer;
+use protocol::{Answer, Reason};
 
 // OPEN of session s at site m.
-pub fn open_session(t: &[u8], s: u8, m: u8) -> Decided
+pub fn open_session(t: &[u8], s: u8, m: u8) -> Result<Decided, Reason>
     requires { Long t.now × T (well_formed t.now) × (s < 16) }
-    ensures { outcome_of result ≡ answered (decode t.now) (OPEN s m) }
+    ensures { decided_of result ≡ answered (decode t.now) (OPEN s m) }
 {
-    let x = lookup::session(t, s);
-    if x.open {
-        return answers::refused(13);
+    if lookup::session(t, s).open {
+        return Err(Reason::SessionOpen);
     }
-    answers::kept(Answer::Done, s, keeping::opened(m))
+    Ok(answers::kept(Answer::Done, s, keeping::opened(m)))
 }
 
-pub fn close_session(t: &[u8], s: u8) -> Decided
+pub fn close_session(t: &[u8], s: u8) -> Result<Decided, Reason>
     requires { Long t.now × T (well_formed t.now) × (s < 16) }
-    ensures { outcome_of result ≡ answered (decode t.now) (CLOSE s) }
+    ensures { decided_of result ≡ answered (decode t.now) (CLOSE s) }
 {
-    let x = lookup::session(t, s);
-    if !x.open {
-        return answers::refused(12);
-    }
-    answers::kept(Answer::Done, s, keeping::closed())
+    lookup::opened(t, s)?;
+    Ok(answers::kept(Answer::Done, s, keeping::closed()))
 }
 
 // R44, GET of key k: the node's entry for every other site is at least the session's, and then the newest record is shown. Where one is not it waits,
 // for the lowest such site (R51).
-pub fn get(t: &[u8], s: u8, k: u8) -> Decided
+pub fn get(t: &[u8], s: u8, k: u8) -> Result<Decided, Reason>
     requires { Whole t.now × T (well_formed t.now) × (s < 16) × (k < 64) }
-    ensures { outcome_of result ≡ answered (decode t.now) (GET s k) }
+    ensures { decided_of result ≡ answered (decode t.now) (GET s k) }
 {
-    let x = lookup::session(t, s);
-    if !x.open {
-        return answers::refused(12);
-    }
+    let x = lookup::opened(t, s)?;
     if x.paged {
-        return answers::refused(14);
+        return Err(Reason::PageOpen);
     }
     let m = x.site;
-    let vec = x.vec;
     let p = lookup::partition(t, k);
     let heard = lookup::heard(t, m, p);
-    if !vec.at_most_but(heard, m as usize) {
-        return answers::waits_to_hear(vec, heard, m as usize);
-    }
+    answers::hears(x.vec, heard, Some(m))?;
     let found = lookup::at_hand(t, m, p, k);
-    answers::kept(answers::shown(found), s, raising::raised_by(x, found))
+    Ok(answers::kept(answers::shown(found), s, raising::raised_by(x, found)))
 }

@@ -11,12 +11,13 @@ ghost use Rattle.parts.specs.Channel.{wait_in};
 ghost use Rattle.table.specs.Parts.{Long, site_of, node_of, channel_of};
 ghost use Rattle.table.specs.Decode.{decode};
 ghost use Rattle.lawful.specs.WellFormed.{well_formed};
-ghost use Rattle.outcome.specs.Decided.{outcome_of};
+ghost use Rattle.outcome.specs.Decided.{decided_of};
 ghost use Rattle.decision.specs.Answered.{answered};
 
 use crate::lookup;
 use outcome::{Decided, Effect, answers};
 use parts::{channels, nodes};
+use protocol::Reason;
 use record::bytes;
 use table::places;
 use vector::Vector;
@@ -54,39 +55,37 @@ fn has_room(t: &[u8], m: u8, p: u8) -> bool
 }
 
 // R43: an equal time is done.
-pub fn clock(t: &[u8], m: u8, p: u8, time: u64) -> Decided
+pub fn clock(t: &[u8], m: u8, p: u8, time: u64) -> Result<Decided, Reason>
     requires { Long t.now × T (well_formed t.now) × (m < load 1 t.now 0) × (p < load 1 t.now 1) }
-    ensures { outcome_of result ≡ answered (decode t.now) (CLOCK m p time) }
+    ensures { decided_of result ≡ answered (decode t.now) (CLOCK m p time) }
 {
     if time < nodes::clock(places::node(t, m, p)) {
-        return answers::refused(19);
+        return Err(Reason::TimeBeforeClock);
     }
-    let effect = Effect::Clock {
+    Ok(answers::done(Effect::Clock {
         site: m,
         partition: p,
         time,
-    };
-    answers::done(effect)
+    }))
 }
 
 // R49: where the clock is not greater than its own entry nothing is sent, and no room is asked for.
-pub fn beat(t: &[u8], m: u8, p: u8) -> Decided
+pub fn beat(t: &[u8], m: u8, p: u8) -> Result<Decided, Reason>
     requires { Long t.now × T (well_formed t.now) × (m < load 1 t.now 0) × (p < load 1 t.now 1) }
-    ensures { outcome_of result ≡ answered (decode t.now) (BEAT m p) }
+    ensures { decided_of result ≡ answered (decode t.now) (BEAT m p) }
 {
     let stamp = nodes::clock(places::node(t, m, p));
     if stamp <= own(t, m, p) {
-        return answers::done(Effect::Nothing);
+        return Ok(answers::done(Effect::Nothing));
     }
     if !has_room(t, m, p) {
-        return answers::refused(21);
+        return Err(Reason::ChannelFull);
     }
-    let effect = Effect::Beat {
+    Ok(answers::done(Effect::Beat {
         site: m,
         partition: p,
         stamp,
-    };
-    answers::done(effect)
+    }))
 }
 
 // R45: the stamp that the clock of node (m, p) must pass, for a session with vector v: the largest of v's entries and the node's own entry.
@@ -99,46 +98,45 @@ fn to_pass(t: &[u8], m: u8, p: u8, v: Vector) -> u64
     vector::later(seen, latest)
 }
 
-pub fn put(t: &[u8], s: u8, key: u8, quality: u8, level: i32) -> Decided
+pub fn put(t: &[u8], s: u8, key: u8, quality: u8, level: i32) -> Result<Decided, Reason>
     requires { Long t.now × T (well_formed t.now) × (s < 16) }
-    ensures { outcome_of result ≡ answered (decode t.now) (PUT s key quality level) }
+    ensures { decided_of result ≡ answered (decode t.now) (PUT s key quality level) }
 {
-    let x = lookup::session(t, s);
-    if !x.open {
-        return answers::refused(12);
-    }
+    let x = lookup::opened(t, s)?;
     if x.paged {
-        return answers::refused(14);
+        return Err(Reason::PageOpen);
     }
     let m = x.site;
     let p = lookup::partition(t, key);
     if !has_slot(t, m, p) {
-        return answers::refused(22);
+        return Err(Reason::NodeFull);
     }
     if !has_room(t, m, p) {
-        return answers::refused(21);
+        return Err(Reason::ChannelFull);
     }
-    let v = x.vec;
-    let pass = to_pass(t, m, p, v);
+    let pass = to_pass(t, m, p, x.vec);
     let stamp = nodes::clock(places::node(t, m, p));
     if stamp <= pass {
-        return answers::waits(m, pass);
+        return Err(Reason::Wait {
+            site: m,
+            stamp: pass,
+        });
     }
-    answers::stored(s, x, p, key, quality, level, stamp)
+    Ok(answers::stored(s, x, p, key, quality, level, stamp))
 }
 
-pub fn deliver(t: &[u8], i: u8, m: u8, p: u8) -> Decided
+pub fn deliver(t: &[u8], i: u8, m: u8, p: u8) -> Result<Decided, Reason>
     requires { Long t.now × T (well_formed t.now) × (i < load 1 t.now 0) × (m < load 1 t.now 0) × (i ≡ m → ⊥) × (p < load 1 t.now 1) }
-    ensures { outcome_of result ≡ answered (decode t.now) (DELIVER i m p) }
+    ensures { decided_of result ≡ answered (decode t.now) (DELIVER i m p) }
 {
     let d = table::place_of(i as usize, m as usize);
     let c = places::channel(t, i, p, d);
     if channels::waiting(c) == 0 {
-        return answers::refused(20);
+        return Err(Reason::ChannelEmpty);
     }
     let x = channels::first(c);
     if bytes::is_update(x) & !has_slot(t, m, p) {
-        return answers::refused(22);
+        return Err(Reason::NodeFull);
     }
-    answers::taken(i, m, p, x)
+    Ok(answers::taken(i, m, p, x))
 }

@@ -1,22 +1,29 @@
--- A decision as the protocol's outcome: its answer, and the changes of its effect.
+-- A decision as the protocol's outcome: its answer, and the changes of its effect; or the reason that there is none, and nothing changes.
 use Rattle.std.specs.Prelude.{List, [], ◌∷◌}
-use Rattle.vector.specs.declared.Vector.{Vector}
+use Rattle.std.specs.declared.result.Result.{Result}
+use Rattle.std.specs.declared.result.Result.TheVariants.{Ok, Err}
 use Rattle.protocol.specs.Record.{Heartbeat}
+use Rattle.protocol.specs.declared.Answer.TheVariants.{Refused}
 use Rattle.protocol.specs.Change.{Change, SetSession, SetClock, Publish, Receive}
 use Rattle.protocol.specs.Serve.{Outcome, ◌and◌}
-use Rattle.record.specs.Meaning.{message_of}
+use Rattle.protocol.specs.Reason.{refusal_for}
+use Rattle.protocol.specs.declared.reasons.Reason.{Reason}
+use Rattle.record.specs.Meaning.{as_message}
 use Rattle.parts.specs.Meaning.{as_session}
-use Rattle.parts.specs.declared.Session.{Session}
 use Rattle.outcome.specs.declared.Effect.{Effect}
 use Rattle.outcome.specs.declared.Decided.{Decided}
 
-abbrev pub changes_of : Effect → Vector → Session → List Change
-changes_of Effect.Nothing v x = []
-changes_of (Effect.Keep s) v x = SetSession s (as_session x) ∷ []
-changes_of (Effect.Clock m p t) v x = SetClock m p t ∷ []
-changes_of (Effect.Beat m p t) v x = Publish m p (Heartbeat t) ∷ []
-changes_of (Effect.Put s m p message) v x = Publish m p (message_of message v) ∷ SetSession s (as_session x) ∷ []
-changes_of (Effect.Deliver i m p message) v x = Receive i m p (message_of message v) ∷ []
+abbrev pub changes_of : Effect → List Change
+changes_of Effect.Nothing = []
+changes_of (Effect.Keep s x) = SetSession s (as_session x) ∷ []
+changes_of (Effect.Clock m p t) = SetClock m p t ∷ []
+changes_of (Effect.Beat m p t) = Publish m p (Heartbeat t) ∷ []
+changes_of (Effect.Put s x m p letter) = Publish m p (as_message letter) ∷ SetSession s (as_session x) ∷ []
+changes_of (Effect.Deliver i m p letter) = Receive i m p (as_message letter) ∷ []
 
 abbrev pub outcome_of : Decided → Outcome
-outcome_of d = d.answer and changes_of d.effect d.carried d.session
+outcome_of d = d.answer and changes_of d.effect
+
+abbrev pub decided_of : Result Decided Reason → Outcome
+decided_of (Ok d) = outcome_of d
+decided_of (Err w) = Refused (refusal_for w) and []

@@ -4,12 +4,12 @@ ghost use Rattle.vector.specs.Meaning.{as_vec};
 ghost use Rattle.protocol.specs.State.{no_page, closed, opened, with_vec, with_page};
 ghost use Rattle.protocol.specs.Serve.{begun, read_on};
 ghost use Rattle.parts.specs.Meaning.{as_session};
-ghost use Rattle.search.specs.Found.{found_of};
+ghost use Rattle.search.specs.Found.{found_of, Sited};
 ghost use Rattle.outcome.specs.Marks.{keys_on};
 
 use crate::{answers, marks};
 use parts::Session;
-use search::Found;
+use record::Record;
 use vector::Vector;
 
 pub fn closed() -> Session
@@ -33,19 +33,18 @@ pub fn closed() -> Session
 pub fn opened(m: u8) -> Session
     ensures { as_session result ≡ opened m }
 {
-    let mut x = closed();
-    x.open = true;
-    x.site = m;
-    x
+    Session {
+        open: true,
+        site: m,
+        ..closed()
+    }
 }
 
 // With another vector.
 pub fn with_vector(x: Session, vec: Vector) -> Session
     ensures { as_session result ≡ with_vec (as_session x) (as_vec vec) }
 {
-    let mut y = x;
-    y.vec = vec;
-    y
+    Session { vec, ..x }
 }
 
 // With a page of the first `count` keys, none read, begun by a coordinator that has this vector.
@@ -53,42 +52,38 @@ pub fn begun(x: Session, coordinator: Vector, keys: [u8; 8], count: u8) -> Sessi
     requires { count ≤ 8 }
     ensures { as_session result ≡ with_page (as_session x) (begun (as_vec coordinator) (as_session x).vec (keys_on keys count)) }
 {
-    let vec = x.vec;
-    let zero = Vector::zero();
-    let mut y = x;
-    y.paged = true;
-    y.snapshot = coordinator.larger_of(vec);
-    y.keys = keys;
-    y.marks = [false; 8];
-    y.count = count;
-    y.gathered = zero;
-    y
+    Session {
+        paged: true,
+        snapshot: coordinator.larger_of(x.vec),
+        keys,
+        marks: [false; 8],
+        count,
+        gathered: Vector::zero(),
+        ..x
+    }
 }
 
 // With key k of its page read, and gathered what was found.
-pub fn read_on(x: Session, k: u8, found: Found) -> Session
-    requires { (x.count ≤ 8) × (found.newest.numbers.source < 4) }
+pub fn read_on(x: Session, k: u8, found: Option<Record>) -> Session
+    requires { (x.count ≤ 8) × Sited found }
     ensures { as_session result ≡ with_page (as_session x) (read_on (as_session x).page k (found_of found)) }
 {
-    let keys = x.keys;
-    let marks = x.marks;
-    let gathered = x.gathered;
-    let read = marks::read(keys, marks, x.count as usize, k);
-    let mut y = x;
-    y.paged = true;
-    y.marks = read;
-    y.gathered = answers::raised_by(gathered, found);
-    y
+    Session {
+        paged: true,
+        marks: marks::read(x.keys, x.marks, x.count as usize, k),
+        gathered: answers::raised_by(x.gathered, found),
+        ..x
+    }
 }
 
 // With no page.
 pub fn ended(x: Session) -> Session
     ensures { as_session result ≡ with_page (as_session x) no_page }
 {
-    let vec = x.vec;
-    let mut y = closed();
-    y.open = x.open;
-    y.site = x.site;
-    y.vec = vec;
-    y
+    Session {
+        open: x.open,
+        site: x.site,
+        vec: x.vec,
+        ..closed()
+    }
 }

@@ -1,24 +1,24 @@
-// What a decision is made of, by value: its answer, what is then carried out, and the session as it is left. Here are the values. The files: marks (the keys of a
-// page and which of them were read), keeping (a session opened, closed, with a page begun, read on, ended), raising (a session's vector), answers.
+// What a decision is made of, by value: its answer, and what is then carried out, with the session as it is left. Here are the values. The files: marks (the keys of
+// a page and which of them were read), keeping (a session opened, closed, with a page begun, read on, ended), raising (a session's vector), answers.
 
 #![tactic(auto)]
 
 use parts::Session;
 use protocol::Answer;
-use record::Message;
-use vector::Vector;
+use record::Letter;
 
 pub mod answers;
 pub mod keeping;
 pub mod marks;
 pub mod raising;
 
-// What is then carried out. A delivery holds its message, which is numbers; an update's vector and a session stand beside the effect.
+// What is then carried out, with all that it writes.
 #[derive(Clone, Copy)]
 pub enum Effect {
     Nothing,
     Keep {
         session: u8,
+        kept: Session,
     },
     Clock {
         site: u8,
@@ -32,15 +32,16 @@ pub enum Effect {
     },
     Put {
         session: u8,
+        kept: Session,
         site: u8,
         partition: u8,
-        message: Message,
+        letter: Letter,
     },
     Deliver {
         from: u8,
         site: u8,
         partition: u8,
-        message: Message,
+        letter: Letter,
     },
 }
 
@@ -48,6 +49,4 @@ pub enum Effect {
 pub struct Decided {
     pub answer: Answer,
     pub effect: Effect,
-    pub carried: Vector,
-    pub session: Session,
 }

@@ -20,3 +20,4 @@ pub mod Waits
 pub mod Marked
 pub mod Search
 pub mod Meaning
+pub mod Reason

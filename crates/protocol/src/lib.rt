@@ -1,5 +1,6 @@
 // The rules of docs/RULES.md without bytes: the definitions are in specs/, what is proved of them in proofs/. The code here is the answer, the very
-// type that the definitions use, and the values that it stands for; `limits` has the constants that setup fixes, and limits. It touches nothing.
+// type that the definitions use, and the values that it stands for; `reasons` has what turns a call away, and `limits` the constants that setup fixes, and
+// limits. It touches nothing.
 
 #![tactic(auto)]
 
@@ -7,6 +8,9 @@ ghost use Rattle.std.specs.Prelude.{◌≡◌};
 ghost use Rattle.protocol.specs.Event.{five, values_of};
 
 pub mod limits;
+pub mod reasons;
+
+pub use reasons::Reason;
 
 // A refusal, or the wait 3, with the source and the stamp that it names.
 #[derive(Clone, Copy)]
@@ -57,14 +61,16 @@ fn five(number: u8, source: u8, quality: u8, level: i32, stamp: u64) -> Values
     }
 }
 
-pub fn values_of(a: Answer) -> Values
-    ensures { result ≡ values_of a }
-{
-    match a {
-        Answer::Done => five(0, 0, 0, 0, 0),
-        Answer::Stamped { source, stamp } => five(0, source, 0, 0, stamp),
-        Answer::Value(v) => five(1, v.source, v.quality, v.level, v.stamp),
-        Answer::Nothing => five(2, 0, 0, 0, 0),
-        Answer::Refused(w) => five(w.number, w.source, 0, 0, w.stamp),
+impl From<Answer> for Values {
+    ghost from_gives = { λ a v. v ≡ values_of a };
+
+    fn from(a: Answer) -> Values {
+        match a {
+            Answer::Done => five(0, 0, 0, 0, 0),
+            Answer::Stamped { source, stamp } => five(0, source, 0, 0, stamp),
+            Answer::Value(v) => five(1, v.source, v.quality, v.level, v.stamp),
+            Answer::Nothing => five(2, 0, 0, 0, 0),
+            Answer::Refused(w) => five(w.number, w.source, 0, 0, w.stamp),
+        }
     }
 }

@@ -8,10 +8,10 @@ ghost use Rattle.protocol.specs.Record.{Setting, newest};
 ghost use Rattle.protocol.specs.Search.{later_place, better_place, newest_place, placed};
 ghost use Rattle.record.specs.RecordBytes.{record_at};
 ghost use Rattle.parts.specs.Node.{slot_at, held_in, store_in};
-ghost use Rattle.search.specs.Found.{fits, found_of};
+ghost use Rattle.search.specs.Found.{fits, found_of, Sited};
 
 use parts::nodes;
-use record::{Numbers, Record, bytes};
+use record::{Record, bytes};
 use vector::Vector;
 
 // What a page asks of a record: its key, and that it carries no more than the page's vector.
@@ -20,25 +20,6 @@ pub struct Wanted {
     pub key: u8,
     pub snapshot: Vector,
 }
-
-// What a search gives: the newest record counts only if one was found.
-#[derive(Clone, Copy)]
-pub struct Found {
-    pub found: bool,
-    pub newest: Record,
-}
-
-// What stands where nothing was found.
-const BLANK: Record = Record {
-    numbers: Numbers {
-        key: 0,
-        source: 0,
-        quality: 0,
-        level: 0,
-        stamp: 0,
-    },
-    carried: Vector::ZERO,
-};
 
 // Whether the record at `at` is one that the page wants. The key is compared first: it is one byte.
 fn is_candidate(n: &[u8], at: usize, w: Wanted) -> bool
@@ -110,26 +91,20 @@ fn newest_place(n: &[u8], held: usize, w: Wanted) -> usize
 }
 
 // What stands at a place.
-pub fn found_at(n: &[u8], place: usize) -> Found
+pub fn found_at(n: &[u8], place: usize) -> Option<Record>
     requires { (length n.now ≡ 1856) × (place ≤ 32) × (0 < place → (record_at n.now (slot_at (place - 1))).id.source < 4) }
-    ensures { (found_of result ≡ placed (λ i. record_at n.now (slot_at i)) place) × (result.newest.numbers.source < 4) }
+    ensures { (found_of result ≡ placed (λ i. record_at n.now (slot_at i)) place) × Sited result }
 {
     if place == 0 {
-        return Found {
-            found: false,
-            newest: BLANK,
-        };
+        return None;
     }
-    Found {
-        found: true,
-        newest: bytes::load_record(n, 64 + 56 * (place - 1)),
-    }
+    Some(bytes::load_record(n, 64 + 56 * (place - 1)))
 }
 
 // The newest record of a node that fits.
-pub fn newest(n: &[u8], w: Wanted) -> Found
+pub fn newest(n: &[u8], w: Wanted) -> Option<Record>
     requires { (length n.now ≡ 1856) × (held_in n.now ≤ 32) × ((k : ℕ) → k < held_in n.now → (record_at n.now (slot_at k)).id.source < 4) }
-    ensures { ((c : Setting) → found_of result ≡ newest c (fits w) (store_in n.now)) × (result.newest.numbers.source < 4) }
+    ensures { ((c : Setting) → found_of result ≡ newest c (fits w) (store_in n.now)) × Sited result }
 {
     let held = nodes::held(n) as usize;
     found_at(n, newest_place(n, held, w))

@@ -1,28 +1,38 @@
 -- `decision::pages::begin` meets its contract: each return is a rung of the ladder.
-use mathlib.Core.Path.{sym, ◌∙◌}
-use borrow.Author.Tests.{not-true, not-false}
+use mathlib.Core.Path.{refl, sym, ◌∙◌}
 use Rattle.protocol.proofs.Ladders.{if_no_page_lem}
 use Rattle.parts.specs.Meaning.{as_session}
+use Rattle.parts.specs.Session.{session_in}
+use Rattle.table.specs.Parts.{session_of}
 use Rattle.outcome.specs.Marks.{keys_on}
+use Rattle.decision.proofs.Exits.{turned}
 use Rattle.decision.proofs.Ladders.{begin_says}
 use Rattle.decision.proofs.pages.begin.Goals as goal
 
-pub returns-then-not-x : goal.returns-then-not-x
-returns-then-not-x c =
-    c.refused.ensures ∙ sym ((begin_says c.args.t.now c.args.s (as_session c.session-x.result) c.session-x.ensures.0 c.args.p (keys_on c.args.keys c.args.count)) ∙ rw (not-true _ c.if-not-x.true))
+pub returns-in_err-x : goal.returns-in_err-x
+returns-in_err-x c =
+    let a = c.args in
+    let met = c.in_err-x.ensures.err in
+    turned _ _ c.from_residual.ensures.1 _ met.0 ∙ sym (begin_says a.t.now a.s (session_in (session_of a.t.now a.s)) refl a.p (keys_on a.keys a.count) ∙ rw met.1)
 
 pub returns-then-x : goal.returns-then-x
 returns-then-x c =
-    c.refused-then-x.ensures ∙ sym ((begin_says c.args.t.now c.args.s (as_session c.session-x.result) c.session-x.ensures.0 c.args.p (keys_on c.args.keys c.args.count)) ∙ rw (not-false _ c.if-not-x.false, c.if-x.true))
+    let a = c.args in
+    let x = c.in_ok-x.ensures.ok in
+    sym (begin_says a.t.now a.s (as_session c.in_ok-x.x) x.says a.p (keys_on a.keys a.count) ∙ rw (x.is_open, c.if-x.true))
 
 pub returns-then-not-distinct : goal.returns-then-not-distinct
 returns-then-not-distinct c =
-    c.refused-then-not-distinct.ensures ∙ sym ((begin_says c.args.t.now c.args.s (as_session c.session-x.result) c.session-x.ensures.0 c.args.p (keys_on c.args.keys c.args.count)) ∙ rw (not-false _ c.if-not-x.false, c.if-x.false, sym c.distinct.ensures, c.if-not-distinct.true))
+    let a = c.args in
+    let x = c.in_ok-x.ensures.ok in
+    sym (begin_says a.t.now a.s (as_session c.in_ok-x.x) x.says a.p (keys_on a.keys a.count) ∙ rw (x.is_open, c.if-x.false, sym c.distinct.ensures, c.if-not-distinct.true))
 
 pub heard-coordinator-requires : goal.heard-coordinator-requires
-heard-coordinator-requires c =
-    (c.requires.0, c.session-x.ensures.2 (not-false _ c.if-not-x.false), c.requires.3)
+heard-coordinator-requires c = (c.requires.0, c.in_ok-x.ensures.ok.site, c.requires.3)
 
 pub returns : goal.returns
 returns c =
-    c.kept.ensures ∙ sym ((begin_says c.args.t.now c.args.s (as_session c.session-x.result) c.session-x.ensures.0 c.args.p (keys_on c.args.keys c.args.count)) ∙ if_no_page_lem (as_session c.session-x.result) (not-false _ c.if-not-x.false) c.if-x.false ∙ rw (c.begun.ensures, c.heard-coordinator.ensures, sym c.distinct.ensures, c.if-not-distinct.false))
+    let a = c.args in
+    let x = c.in_ok-x.ensures.ok in
+    c.kept.ensures
+    ∙ sym (begin_says a.t.now a.s (as_session c.in_ok-x.x) x.says a.p (keys_on a.keys a.count) ∙ if_no_page_lem (as_session c.in_ok-x.x) x.is_open c.if-x.false ∙ rw (c.begun.ensures, c.heard-coordinator.ensures, sym c.distinct.ensures, c.if-not-distinct.false))

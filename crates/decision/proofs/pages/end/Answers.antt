@@ -1,37 +1,44 @@
 -- `decision::pages::end` meets its contract: each return is a rung of the ladder.
-use mathlib.Core.Path.{◌≡◌, sym, ap, ◌∙◌}
-use borrow.Author.Tests.{not-true, not-false}
+use mathlib.Core.Path.{◌≡◌, refl, sym, ap, ◌∙◌}
 use Rattle.vector.specs.Vec.{larger}
 use Rattle.vector.specs.Meaning.{as_vec}
 use Rattle.vector.proofs.Vec.{raised-plain}
 use Rattle.protocol.specs.State.{Session, no_page, with_vec, with_page}
 use Rattle.protocol.proofs.Ladders.{if_page_lem}
 use Rattle.parts.specs.Meaning.{as_session}
+use Rattle.parts.specs.Session.{session_in}
+use Rattle.table.specs.Parts.{session_of}
+use Rattle.decision.proofs.Exits.{turned}
 use Rattle.decision.proofs.Ladders.{end_says}
 use Rattle.decision.proofs.pages.end.Goals as goal
 
+pub returns-in_err-x : goal.returns-in_err-x
+returns-in_err-x c =
+    let a = c.args in
+    let met = c.in_err-x.ensures.err in
+    turned _ _ c.from_residual.ensures.1 _ met.0 ∙ sym (end_says a.t.now a.s (session_in (session_of a.t.now a.s)) refl ∙ rw met.1)
+
 pub returns-then-not-x : goal.returns-then-not-x
 returns-then-not-x c =
-    c.refused.ensures ∙ sym ((end_says c.args.t.now c.args.s (as_session c.session-x.result) c.session-x.ensures.0) ∙ rw (not-true _ c.if-not-x.true))
-
-pub returns-then-not-x-2 : goal.returns-then-not-x-2
-returns-then-not-x-2 c =
-    c.refused-then-not-x-2.ensures ∙ sym ((end_says c.args.t.now c.args.s (as_session c.session-x.result) c.session-x.ensures.0) ∙ rw (not-false _ c.if-not-x.false, not-true _ c.if-not-x-2.true))
+    let a = c.args in
+    let x = c.in_ok-x.ensures.ok in
+    sym (end_says a.t.now a.s (as_session c.in_ok-x.x) x.says ∙ rw (x.is_open, c.if-not-x.true))
 
 pub returns-then-not-all_read : goal.returns-then-not-all_read
 returns-then-not-all_read c =
-    c.refused-then-not-all_read.ensures ∙ sym ((end_says c.args.t.now c.args.s (as_session c.session-x.result) c.session-x.ensures.0) ∙ rw (not-false _ c.if-not-x.false, not-false _ c.if-not-x-2.false, sym (c.all_read.ensures c.session-x.result.keys), c.if-not-all_read.true))
+    let a = c.args in
+    let x = c.in_ok-x.ensures.ok in
+    sym (end_says a.t.now a.s (as_session c.in_ok-x.x) x.says ∙ rw (x.is_open, c.if-not-x.false, sym (c.all_read.ensures c.in_ok-x.x.keys), c.if-not-all_read.true))
 
-pub lent-raised-requires : goal.lent-raised-requires
-lent-raised-requires c =
-    c.session-x.ensures.2 (not-false _ c.if-not-x.false)
+pub raise-requires : goal.raise-requires
+raise-requires c = c.in_ok-x.ensures.ok.site
 
 pub returns : goal.returns
 returns c =
-    let raised : as_session c.ended.result ≡ with_page (with_vec (as_session c.session-x.result) (larger (as_vec c.session-x.result.vec) (as_vec c.session-x.result.gathered))) no_page =
-    c.ended.ensures ∙ ap (λ (y : Session). with_page y no_page) c.lent-raised.ensures ∙ rw (raised-plain (as_vec c.session-x.result.vec) (as_vec c.session-x.result.gathered) c.session-x.result.site) in
-    c.kept.ensures ∙ sym ((end_says c.args.t.now c.args.s (as_session c.session-x.result) c.session-x.ensures.0) ∙ if_page_lem (as_session c.session-x.result) (not-false _ c.if-not-x.false) (not-false _ c.if-not-x-2.false) ∙ rw (
-      sym (c.all_read.ensures c.session-x.result.keys),
-      c.if-not-all_read.false,
-      raised,
-    ))
+    let a = c.args in
+    let x = c.in_ok-x.x in
+    let known = c.in_ok-x.ensures.ok in
+    let raised : as_session c.ended.result ≡ with_page (with_vec (as_session x) (larger (as_vec x.vec) (as_vec x.gathered))) no_page =
+    c.ended.ensures ∙ ap (λ (y : Session). with_page y no_page) c.raise.ensures ∙ rw (raised-plain (as_vec x.vec) (as_vec x.gathered) x.site) in
+    c.kept.ensures
+    ∙ sym (end_says a.t.now a.s (as_session x) known.says ∙ if_page_lem (as_session x) known.is_open c.if-not-x.false ∙ rw (sym (c.all_read.ensures x.keys), c.if-not-all_read.false, raised))

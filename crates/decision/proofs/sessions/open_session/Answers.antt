@@ -6,9 +6,12 @@ use Rattle.parts.specs.Meaning.{as_session}
 use Rattle.decision.proofs.Ladders.{open_says}
 use Rattle.decision.proofs.sessions.open_session.Goals as goal
 
-pub returns-then-x : goal.returns-then-x
-returns-then-x c = c.refused.ensures ∙ sym ((open_says c.args.t.now c.args.s (as_session c.session-x.result) c.session-x.ensures.0 c.args.m) ∙ rw c.if-x.true)
+pub returns-then-session : goal.returns-then-session
+returns-then-session c =
+    let a = c.args in
+    sym (open_says a.t.now a.s (as_session c.session.result) c.session.ensures.0 a.m ∙ rw c.if-session.true)
 
 pub returns : goal.returns
 returns c =
-    c.kept.ensures ∙ ap (keeps Answer.Done _) c.opened.ensures ∙ sym ((open_says c.args.t.now c.args.s (as_session c.session-x.result) c.session-x.ensures.0 c.args.m) ∙ rw c.if-x.false)
+    let a = c.args in
+    c.kept.ensures ∙ ap (keeps Answer.Done _) c.opened.ensures ∙ sym (open_says a.t.now a.s (as_session c.session.result) c.session.ensures.0 a.m ∙ rw c.if-session.false)

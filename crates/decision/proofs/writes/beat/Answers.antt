@@ -34,7 +34,7 @@ returns-then-not-has_room c =
     let sends_loaded : sends ≡ ltb c.own.result c.clock-stamp.result = rw (c.own.ensures, c.clock-stamp.ensures, c.node.ensures.0) in
     let e : sends ≡ true = sends_loaded ∙ lt-ltb c.own.result c.clock-stamp.result (omega (arith, c.if-stamp-own.false)) in
     let full = sym c.has_room.ensures ∙ c.if-not-has_room.true in
-    c.refused.ensures ∙ sym (beat-answered c.args.t.now c.args.m c.args.p c.requires.2 (formed c.args.t.now c.requires.1).sites ∙ rw (e, full))
+    sym (beat-answered c.args.t.now c.args.m c.args.p c.requires.2 (formed c.args.t.now c.requires.1).sites ∙ rw (e, full))
 
 pub returns : goal.returns
 unfolding roomy

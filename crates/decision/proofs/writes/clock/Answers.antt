@@ -17,7 +17,7 @@ pub returns-then-time-clock : goal.returns-then-time-clock
 returns-then-time-clock c =
     let a = c.args in
     let e = (c.clock.ensures ∙ ap clock_in c.node.ensures.0) in
-    c.refused.ensures ∙ sym (clock-answered a.t.now a.m a.p a.time ∙ rw (lt-leb (clock_in (node_of (site_of a.t.now a.m) a.p)) a.time (omega arith)))
+    sym (clock-answered a.t.now a.m a.p a.time ∙ rw (lt-leb (clock_in (node_of (site_of a.t.now a.m) a.p)) a.time (omega arith)))
 
 pub returns : goal.returns
 returns c =

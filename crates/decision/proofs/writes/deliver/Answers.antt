@@ -28,7 +28,7 @@ pub returns-then-waiting-eq0 : goal.returns-then-waiting-eq0
 returns-then-waiting-eq0 c =
     let a = c.args in
     let F = (formed c.args.t.now c.requires.1) in
-    c.refused.ensures ∙ sym (deliver_none a.t.now a.i a.m a.p (omega arith) c.requires.4 (sym (c.waiting.ensures ∙ ap wait_in (c.channel-c.ensures.0 ∙ ap (channel_of (site_of c.args.t.now c.args.i) c.args.p) c.place_of-d.ensures.0)) ∙ c.if-waiting-eq0.true))
+    sym (deliver_none a.t.now a.i a.m a.p (omega arith) c.requires.4 (sym (c.waiting.ensures ∙ ap wait_in (c.channel-c.ensures.0 ∙ ap (channel_of (site_of c.args.t.now c.args.i) c.args.p) c.place_of-d.ensures.0)) ∙ c.if-waiting-eq0.true))
 
 pub has_slot-requires : goal.has_slot-requires
 has_slot-requires c = let F = (formed c.args.t.now c.requires.1) in (omega arith, omega arith, omega arith)
@@ -39,7 +39,7 @@ returns-then-is_update-has_slot c =
     let F = (formed c.args.t.now c.requires.1) in
     let some : 0 < wait_in (channel_of (site_of c.args.t.now c.args.i) c.args.p (place_of c.args.i c.args.m)) = omega (arith, (c.waiting.ensures ∙ ap wait_in (c.channel-c.ensures.0 ∙ ap (channel_of (site_of c.args.t.now c.args.i) c.args.p) c.place_of-d.ensures.0)), c.if-waiting-eq0.false) in
     deliver_first c.args.t.now c.args.i c.args.m c.args.p (omega arith) c.requires.4 some ∙ rw (c.has_slot.ensures, c.is_update.ensures, (c.first-x.ensures ∙ ap first_in (c.channel-c.ensures.0 ∙ ap (channel_of (site_of c.args.t.now c.args.i) c.args.p) c.place_of-d.ensures.0))) in
-    c.refused-then-is_update-has_slot.ensures ∙ sym (first_answered ∙ rw c.if-is_update-has_slot.true)
+    sym (first_answered ∙ rw c.if-is_update-has_slot.true)
 
 pub returns : goal.returns
 returns c =

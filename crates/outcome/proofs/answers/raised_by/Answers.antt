@@ -1,13 +1,11 @@
 -- `outcome::answers::raised_by` meets its contract: nothing was found, or it is raised.
-use borrow.Author.Tests.{not-true, not-false}
 use Rattle.protocol.specs.Record.{raised_by}
 use Rattle.outcome.proofs.answers.raised_by.Goals as goal
 
-pub returns-then-not-x : goal.returns-then-not-x
+pub returns-in-None : goal.returns-in-None
 unfolding raised_by
-returns-then-not-x c = rw (not-true _ c.if-not-x.true)
+returns-in-None c = rw c.in-None.is
 
-pub returns : goal.returns
+pub returns-in-Some : goal.returns-in-Some
 unfolding raised_by
-returns c =
-    rw (not-false _ c.if-not-x.false) c.raised.ensures
+returns-in-Some c = rw c.in-Some.is c.raised.ensures

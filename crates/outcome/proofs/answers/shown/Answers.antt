@@ -2,16 +2,13 @@
 use mir.ValLaws.{to_z-of_z}
 use mir.Syntax.{w32}
 use borrow.Author.Rules.{rules}
-use borrow.Author.Tests.{not-true, not-false}
 use Rattle.protocol.specs.Event.{shown}
 use Rattle.outcome.proofs.answers.shown.Goals as goal
 
-pub returns-then-not-x : goal.returns-then-not-x
+pub returns-in-None : goal.returns-in-None
 unfolding shown
-returns-then-not-x c = rw (not-true _ c.if-not-x.true)
+returns-in-None c = rw c.in-None.is
 
-pub returns : goal.returns
+pub returns-in-Some : goal.returns-in-Some
 unfolding shown
-returns c =
-    let x = c.args.x in
-    rw (not-false _ c.if-not-x.false, to_z-of_z w32 x.newest.numbers.level (record { sfits = search rules }))
+returns-in-Some c = rw (c.in-Some.is, to_z-of_z w32 c.in-Some.record.numbers.level (record { sfits = search rules }))

@@ -6,4 +6,4 @@ use Rattle.outcome.proofs.keeping.begun.Goals as goal
 pub returns : goal.returns
 unfolding begun
 returns c =
-    rw (c.larger_of-y.ensures, c.zero-zero.ensures, marks-begun c.args.keys c.args.count c.requires)
+    rw (c.larger_of.ensures, c.zero.ensures, marks-begun c.args.keys c.args.count c.requires)

@@ -6,4 +6,4 @@ use Rattle.outcome.proofs.keeping.ended.Goals as goal
 
 pub returns : goal.returns
 unfolding closed
-returns c = ap (λ (y : Session). with_page (as_session c.args.x) y.page) c.closed-y.ensures
+returns c = ap (λ (y : Session). with_page (as_session c.args.x) y.page) c.closed.ensures

@@ -6,4 +6,4 @@ use Rattle.outcome.proofs.keeping.opened.Goals as goal
 
 pub returns : goal.returns
 unfolding closed opened
-returns c = ap (λ (y : Session). record { is_open = true; site = c.args.m; vec = y.vec; page = y.page }) c.closed-x.ensures
+returns c = ap (λ (y : Session). record { is_open = true; site = c.args.m; vec = y.vec; page = y.page }) c.closed.ensures

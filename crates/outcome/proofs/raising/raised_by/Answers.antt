@@ -1,14 +1,11 @@
--- `outcome::raising::raised_by` meets its contract: nothing was found, or the session was lent.
-use mathlib.Core.Path.{◌∙◌}
-use borrow.Author.Tests.{not-true, not-false}
+-- `outcome::raising::raised_by` meets its contract: nothing was found, or the session is lent and raised.
 use Rattle.protocol.specs.Record.{raised_by}
 use Rattle.outcome.proofs.raising.raised_by.Goals as goal
 
-pub returns-then-not-found : goal.returns-then-not-found
+pub returns-in-Some : goal.returns-in-Some
 unfolding raised_by
-returns-then-not-found c = rw (not-true _ c.if-not-found.true)
+returns-in-Some c = rw c.in-Some.is c.raise.ensures
 
-pub returns : goal.returns
+pub returns-in_default : goal.returns-in_default
 unfolding raised_by
-returns c =
-    c.lent.ensures ∙ rw (not-false _ c.if-not-found.false)
+returns-in_default c = rw c.in_default.is
