@@ -84,38 +84,16 @@ pub fn store_u64(t: &mut [u8], at: usize, x: u64)
     store_le(t, at, 8, x)
 }
 
-// The level whose four bytes are the number b. A cast takes no number from 2^31 on, so the upper half is counted down from −1.
-fn level_from(b: u32) -> i32
-    ensures { result ≡ level_from b }
-{
-    if b < 2147483648 {
-        b as i32
-    } else {
-        -1 - ((4294967295 - b) as i32)
-    }
-}
-
-// The number of a level's four bytes.
-fn bits_of(x: i32) -> u32
-    ensures { result ≡ bits_of x }
-{
-    if x < 0 {
-        4294967295 - ((-1 - x) as u32)
-    } else {
-        x as u32
-    }
-}
-
 pub fn load_level(t: &[u8], at: usize) -> i32
     requires { at + 4 ≤ length t.now }
     ensures { result ≡ level_from (load 4 t.now at) }
 {
-    level_from(load_u32(t, at))
+    load_u32(t, at).cast_signed()
 }
 
 pub fn store_level(t: &mut [u8], at: usize, x: i32)
     requires { at + 4 ≤ length t.old }
     ensures { t.new ≡ put 4 t.old at (bits_of x) }
 {
-    store_u32(t, at, bits_of(x))
+    store_u32(t, at, x.cast_unsigned())
 }

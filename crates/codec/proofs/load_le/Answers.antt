@@ -29,4 +29,3 @@ loop-i-preserved c =
     let done = a.n - c.loop-i.i in
     let from = a.at + (c.loop-i.i - 1) in
     omega (arith, load_at a.t.now {n = a.n - (c.loop-i.i - 1)} {m = done + 1} {i = from} (omega arith) refl, load_step done a.t.now from, load_at a.t.now {n = done} {i = from + 1} {j = a.at + c.loop-i.i} refl (omega arith))
-
