@@ -1,22 +1,23 @@
 -- `vector::load_vector` meets its contract: the first i entries are loaded.
-use mathlib.Core.Path.{sym, ◌∙◌}
+use mathlib.Core.Path.{◌≡◌, sym, ◌∙◌}
 use native.Mathlib.Omega.{arith}
 use borrow.Author.Count.{below_none}
 use borrow.Author.Rules.{rules}
-use lib.ListN.{length-set}
+use lib.ListN.{length}
 use Rattle.vector.proofs.Entries.{fill_more, entry_is, load_vec-below, load_vec-beyond}
 use Rattle.vector.proofs.load_vector.Goals as goal
 
 pub loop-i-init : goal.loop-i-init
-loop-i-init c = (omega arith, search rules, below_none _)
+loop-i-init c = below_none _
 
 pub loop-i-preserved : goal.loop-i-preserved
 loop-i-preserved c =
     let a = c.args in
+    let four : length c.loop-i.x-items ≡ 4 = search rules in
     let got = c.load_u64.ensures ∙ sym (load_vec-below a.t.now a.at c.loop-i.i (omega arith)) in
-    (omega arith, simp length-set (omega arith), fill_more _ c.loop-i.e c.loop-i.i _ (omega arith) c.loop-i.invariant.2 got)
+    fill_more _ c.loop-i.x-items c.loop-i.i _ (omega arith) c.loop-i.invariant got
 
 pub returns : goal.returns
 returns c =
     let a = c.args in
-    entry_is _ c.loop-i.e c.loop-i.invariant.1 (load_vec-beyond a.t.now a.at) (λ k b. c.loop-i.invariant.2 k (omega arith))
+    entry_is _ c.loop-i.x-items (search rules) (load_vec-beyond a.t.now a.at) (λ k b. c.loop-i.invariant k (omega arith))

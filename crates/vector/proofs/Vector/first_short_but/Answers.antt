@@ -1,5 +1,5 @@
 -- `vector::Vector::first_short_but` meets its contract: at no site below i is the other short.
-use mathlib.Core.Path.{◌≡◌, sym, ◌∙◌}
+use mathlib.Core.Path.{◌≡◌, sym}
 use native.Mathlib.Omega.{arith}
 use Rattle.codec.proofs.Below.{all_below_none, all_below_more, first_not_all, first_not_is}
 use Rattle.vector.specs.Vec.{first_short_but}
@@ -7,20 +7,18 @@ use Rattle.vector.specs.Entries.{entry}
 use Rattle.vector.proofs.Vector.first_short_but.Goals as goal
 
 pub loop-i-init : goal.loop-i-init
-loop-i-init c = (omega arith, all_below_none _)
+loop-i-init c = all_below_none _
 
 pub returns-then-not-i-m : goal.returns-then-not-i-m
 unfolding first_short_but entry
-returns-then-not-i-m c =
-    sym (first_not_is 4 _ c.loop-i.i (omega arith) c.loop-i.invariant.1 (c.if-not-i-m.true))
+returns-then-not-i-m c = sym (first_not_is 4 _ c.loop-i.i (omega arith) c.loop-i.invariant c.if-not-i-m.true)
 
 pub loop-i-preserved : goal.loop-i-preserved
 unfolding entry
-loop-i-preserved c =
-    (omega arith, all_below_more c.loop-i.i _ c.loop-i.invariant.1 (c.if-not-i-m.false))
+loop-i-preserved c = all_below_more c.loop-i.i _ c.loop-i.invariant c.if-not-i-m.false
 
 pub returns : goal.returns
 unfolding first_short_but
 returns c =
     let e : c.loop-i.i ≡ 4 = omega arith in
-    e ∙ sym (first_not_all 4 _ (rw e at c.loop-i.invariant.1))
+    sym (first_not_all 4 _ (rw e at c.loop-i.invariant))

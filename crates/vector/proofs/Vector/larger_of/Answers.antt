@@ -1,22 +1,24 @@
 -- `vector::Vector::larger_of` meets its contract: the first i entries are the larger ones.
+use mathlib.Core.Path.{◌≡◌}
 use native.Mathlib.Omega.{arith}
 use borrow.Author.Count.{below_none}
 use borrow.Author.Rules.{rules}
-use lib.ListN.{length-set}
+use lib.ListN.{length}
 use Rattle.vector.specs.Vec.{larger}
 use Rattle.vector.specs.Entries.{entry}
 use Rattle.vector.proofs.Entries.{fill_more, entry_is, larger_narrow}
 use Rattle.vector.proofs.Vector.larger_of.Goals as goal
 
 pub loop-i-init : goal.loop-i-init
-loop-i-init c = (omega arith, search rules, below_none _)
+loop-i-init c = below_none _
 
 pub loop-i-preserved : goal.loop-i-preserved
 unfolding entry larger
 loop-i-preserved c =
-    (omega arith, simp length-set (omega arith), fill_more _ c.loop-i.w c.loop-i.i _ (omega arith) c.loop-i.invariant.2 c.later.ensures)
+    let four : length c.loop-i.x-items ≡ 4 = search rules in
+    fill_more _ c.loop-i.x-items c.loop-i.i _ (omega arith) c.loop-i.invariant c.later.ensures
 
 pub returns : goal.returns
 returns c =
     let a = c.args in
-    entry_is _ c.loop-i.w c.loop-i.invariant.1 (larger_narrow a.self.entries a.o.entries (search rules) (search rules)) (λ k b. c.loop-i.invariant.2 k (omega arith))
+    entry_is _ c.loop-i.x-items (search rules) (larger_narrow a.self.entries a.o.entries (search rules) (search rules)) (λ k b. c.loop-i.invariant k (omega arith))
