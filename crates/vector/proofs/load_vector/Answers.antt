@@ -1,14 +1,10 @@
 -- `vector::load_vector` meets its contract: the first i entries are loaded.
 use mathlib.Core.Path.{◌≡◌, sym, ◌∙◌}
 use native.Mathlib.Omega.{arith}
-use borrow.Author.Count.{below_none}
 use borrow.Author.Rules.{rules}
 use lib.ListN.{length}
 use Rattle.vector.proofs.Entries.{fill_more, entry_is, load_vec-below, load_vec-beyond}
 use Rattle.vector.proofs.load_vector.Goals as goal
-
-pub loop-i-init : goal.loop-i-init
-loop-i-init c = below_none _
 
 pub loop-i-preserved : goal.loop-i-preserved
 loop-i-preserved c =

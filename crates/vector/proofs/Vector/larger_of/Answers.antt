@@ -1,16 +1,12 @@
 -- `vector::Vector::larger_of` meets its contract: the first i entries are the larger ones.
 use mathlib.Core.Path.{◌≡◌}
 use native.Mathlib.Omega.{arith}
-use borrow.Author.Count.{below_none}
 use borrow.Author.Rules.{rules}
 use lib.ListN.{length}
 use Rattle.vector.specs.Vec.{larger}
 use Rattle.vector.specs.Entries.{entry}
 use Rattle.vector.proofs.Entries.{fill_more, entry_is, larger_narrow}
 use Rattle.vector.proofs.Vector.larger_of.Goals as goal
-
-pub loop-i-init : goal.loop-i-init
-loop-i-init c = below_none _
 
 pub loop-i-preserved : goal.loop-i-preserved
 unfolding entry larger
