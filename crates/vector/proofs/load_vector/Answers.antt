@@ -1,19 +1,13 @@
--- `vector::load_vector` meets its contract: the first i entries are loaded.
-use mathlib.Core.Path.{◌≡◌, sym, ◌∙◌}
-use native.Mathlib.Omega.{arith}
+-- `vector::load_vector` meets its contract: each of the four entries is loaded.
 use borrow.Author.Rules.{rules}
-use lib.ListN.{length}
-use Rattle.vector.proofs.Entries.{fill_more, entry_is, load_vec-below, load_vec-beyond}
+use Rattle.codec.proofs.Below.{none, first}
+use Rattle.vector.specs.Entries.{entry, load_vec}
+use Rattle.vector.proofs.Entries.{entry_is, load_vec-beyond}
 use Rattle.vector.proofs.load_vector.Goals as goal
 
-pub loop-i-preserved : goal.loop-i-preserved
-loop-i-preserved c =
-    let a = c.args in
-    let four : length c.loop-i.x-items ≡ 4 = search rules in
-    let got = c.load_u64.ensures ∙ sym (load_vec-below a.t.now a.at c.loop-i.i (omega arith)) in
-    fill_more _ c.loop-i.x-items c.loop-i.i _ (omega arith) c.loop-i.invariant got
-
 pub returns : goal.returns
+unfolding entry load_vec
 returns c =
     let a = c.args in
-    entry_is _ c.loop-i.x-items (search rules) (load_vec-beyond a.t.now a.at) (λ k b. c.loop-i.invariant k (omega arith))
+    entry_is _ c.from_fn.result c.from_fn.ensures.items.long (load_vec-beyond a.t.now a.at)
+    (first _ 3 (search rules) (first _ 2 (search rules) (first _ 1 (search rules) (first _ 0 (search rules) (none _)))))
