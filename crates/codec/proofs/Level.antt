@@ -1,15 +1,14 @@
 -- The laws of a level's four bytes. In order: the two halves of `level_from`, `level_from` and `bits_of` undo each other and give what is in range, and
--- the subtraction from −1 by which the code gets from one half to the other.
-use Prim.Native.Nat.{ℕ, zero, suc, ◌-◌, ◌<◌}
-use native.Mathlib.Nat.{zero-add}
+-- the casts of the code give the same.
+use Prim.Native.Nat.{ℕ, ◌-◌, ◌<◌}
 use native.Mathlib.Omega.{arith}
 use mathlib.Core.Path.{◌≡◌, refl, ap}
-use mathlib.Core.Bool.{true, false, true≢false}
-use lib.IntN.{ℤ, pos, negsuc, ◌-ℤ◌}
-use lib.Signed.{mag, lt_z}
-use mir.Syntax.{Width}
-use mir.Val.{SFits}
-use borrow.Author.Tests.{ltb-true, lt-ltb, le-ltb}
+use mathlib.Core.Bool.{cond}
+use lib.Dec.{ltb}
+use lib.IntN.{ℤ, pos, negsuc}
+use mir.Syntax.{w32}
+use mir.Val.{to_z, of_z}
+use borrow.Author.Tests.{lt-ltb, le-ltb}
 use Rattle.codec.specs.Le.{span}
 use Rattle.codec.specs.Level.{level_from, bits_of, FitsLevel}
 
@@ -32,29 +31,13 @@ unfolding bits_of FitsLevel span
 bits_of-lt (pos n) h = omega arith
 bits_of-lt (negsuc n) h = omega arith
 
--- ---- −1 − z, by which the code turns the half below 0 over
+-- ---- the casts of the code, `cast_signed` and `cast_unsigned`, give the same
 
-abbrev pub turned : ℤ → ℤ
-turned (pos n) = negsuc n
-turned (negsuc n) = pos n
+pub signed_is : (n : ℕ) → to_z w32 n ≡ level_from n
+unfolding level_from
+signed_is n = ap (λ (k : ℕ). cond (ltb n 2147483648) (pos n) (negsuc k)) (omega arith)
 
-pub minus_one : (z : ℤ) → negsuc 0 -ℤ z ≡ turned z
-minus_one (pos zero) = refl
-minus_one (pos (suc n)) = ap (λ (k : ℕ). negsuc (suc k)) (zero-add n)
-minus_one (negsuc n) = simp (le-ltb (suc n) 1 (omega arith)) (ap pos (omega arith))
-
-pub turned_fits : {w : Width} (z : ℤ) → SFits w z → SFits w (turned z)
-turned_fits (pos n) h = record { sfits = h.sfits }
-turned_fits (negsuc n) h = record { sfits = h.sfits }
-
--- a level below 0 and its bits
-pub bits_of-below : (z : ℤ) → lt_z z (pos 0) ≡ true → (turned z ≡ pos (mag z)) × (bits_of z ≡ 4294967295 - mag z)
+pub unsigned_is : (z : ℤ) → of_z w32 z ≡ bits_of z
 unfolding bits_of
-bits_of-below (pos n) h = absurd (omega (arith, ltb-true n 0 h))
-bits_of-below (negsuc n) h = (refl, refl)
-
--- a level from 0 on and its bits
-pub bits_of_above : (z : ℤ) → lt_z z (pos 0) ≡ false → (z ≡ pos (mag z)) × (bits_of z ≡ mag z)
-unfolding bits_of
-bits_of_above (pos n) h = (refl, refl)
-bits_of_above (negsuc n) h = absurd (true≢false h)
+unsigned_is (pos n) = refl
+unsigned_is (negsuc n) = omega arith

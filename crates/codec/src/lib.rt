@@ -8,23 +8,14 @@ ghost use Rattle.codec.specs.Le.{load, put};
 ghost use Rattle.codec.specs.Tabulate.{tabulate};
 ghost use Rattle.codec.specs.Level.{level_from, bits_of};
 
-// The byte as a wider number, which is still below 256.
-fn wide(x: u8) -> u64
-    ensures { (result ≡ x) × (result < 256) }
-{
-    x as u64
-}
-
 // The number in the n bytes at `at`: the highest byte first, so that what is read is scaled once a turn.
 pub fn load_le(t: &[u8], at: usize, n: usize) -> u64
     requires { (at + n ≤ length t.now) × (n ≤ 8) }
     ensures { result ≡ load n t.now at }
 {
     let mut r: u64 = 0;
-    let mut i = n;
-    while 0 < i {
-        i -= 1;
-        r = wide(t[at + i]) + 256 * r;
+    for i in (0..n).rev() {
+        r = u64::from(t[at + i]) + 256 * r;
     }
     r
 }
@@ -35,11 +26,9 @@ pub fn store_le(t: &mut [u8], at: usize, n: usize, x: u64)
     ensures { t.new ≡ put n t.old at x }
 {
     let mut y = x;
-    let mut i = 0;
-    while i < n {
+    for i in 0..n {
         t[at + i] = (y % 256) as u8;
-        y = y / 256;
-        i += 1;
+        y /= 256;
     }
 }
 
@@ -63,11 +52,7 @@ pub fn load_eight(t: &[u8], at: usize) -> [u8; 8]
     ensures { result ≡ tabulate 8 (λ i. load 1 t.now (at + i)) }
 {
     let mut bytes = [0u8; 8];
-    let mut i = 0;
-    while i < 8 {
-        bytes[i] = load_u8(t, at + i);
-        i += 1;
-    }
+    bytes.copy_from_slice(&t[at..at + 8]);
     bytes
 }
 
@@ -99,38 +84,16 @@ pub fn store_u64(t: &mut [u8], at: usize, x: u64)
     store_le(t, at, 8, x)
 }
 
-// The level whose four bytes are the number b. A cast takes no number from 2^31 on, so the upper half is counted down from −1.
-fn level_from(b: u32) -> i32
-    ensures { result ≡ level_from b }
-{
-    if b < 2147483648 {
-        b as i32
-    } else {
-        -1 - ((4294967295 - b) as i32)
-    }
-}
-
-// The number of a level's four bytes.
-fn bits_of(x: i32) -> u32
-    ensures { result ≡ bits_of x }
-{
-    if x < 0 {
-        4294967295 - ((-1 - x) as u32)
-    } else {
-        x as u32
-    }
-}
-
 pub fn load_level(t: &[u8], at: usize) -> i32
     requires { at + 4 ≤ length t.now }
     ensures { result ≡ level_from (load 4 t.now at) }
 {
-    level_from(load_u32(t, at))
+    load_u32(t, at).cast_signed()
 }
 
 pub fn store_level(t: &mut [u8], at: usize, x: i32)
     requires { at + 4 ≤ length t.old }
     ensures { t.new ≡ put 4 t.old at (bits_of x) }
 {
-    store_u32(t, at, bits_of(x))
+    store_u32(t, at, x.cast_unsigned())
 }

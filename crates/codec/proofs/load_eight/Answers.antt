@@ -1,18 +1,13 @@
--- `codec::load_eight` meets its contract: the first i bytes are loaded.
+-- `codec::load_eight` meets its contract: byte k of the eight is the byte at at + k, which is its number.
+use mathlib.Core.Path.{sym, ◌∙◌}
 use native.Mathlib.Omega.{arith}
-use borrow.Author.Count.{below_none}
-use lib.ListN.{length-set}
-use Rattle.codec.proofs.Tabulate.{tab_is, filled_more}
-use borrow.Author.Rules.{rules}
+use lib.Seq.{get_or-take, get_or-drop}
+use Rattle.codec.proofs.Le.{load_byte}
+use Rattle.codec.proofs.Tabulate.{tab_is}
 use Rattle.codec.proofs.load_eight.Goals as goal
-
-pub loop-i-init : goal.loop-i-init
-loop-i-init c = (omega arith, search rules, below_none _)
-
-pub loop-i-preserved : goal.loop-i-preserved
-loop-i-preserved c =
-    (omega arith, simp length-set (omega arith), filled_more _ c.loop-i.bytes c.loop-i.i _ 0 (omega arith) c.loop-i.invariant.2 c.load_u8.ensures)
 
 pub returns : goal.returns
 returns c =
-    tab_is 8 _ c.loop-i.bytes 0 c.loop-i.invariant.1 (λ k b. c.loop-i.invariant.2 k (omega arith))
+    let t = c.args.t.now in
+    let copied = c.copy_from_slice.ensures in
+    tab_is 8 _ _ 0 copied.len (λ k b. rw copied.after (get_or-take _ _ k 0 (omega arith) ∙ get_or-drop c.args.at t k 0 ∙ sym (load_byte t _)))

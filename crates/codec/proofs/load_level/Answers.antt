@@ -1,12 +1,12 @@
--- `codec::load_level` meets its contract, by what its two callees ensure.
+-- `codec::load_level` meets its contract: the four bytes' number, cast, is its level.
 use mathlib.Core.Path.{◌∙◌, ap}
 use mir.Syntax.{w32}
 use mir.ValLaws.{to_z-of_z}
 use Rattle.codec.specs.Level.{level_from}
+use Rattle.codec.proofs.Level.{signed_is}
 use Rattle.codec.proofs.load_level.Goals as goal
 
 pub returns : goal.returns
 returns c =
-    to_z-of_z w32 c.level_from.result (record { sfits = c.level_from.type_inv })
-    ∙ c.level_from.ensures
-    ∙ ap level_from c.load_u32.ensures
+    let cast = c.cast_signed in
+    to_z-of_z w32 cast.result (record { sfits = cast.type_inv }) ∙ cast.ensures ∙ signed_is _ ∙ ap level_from c.load_u32.ensures

@@ -2,21 +2,14 @@
 use mathlib.Core.Path.{refl, sym, ◌∙◌}
 use Prim.Native.Nat.{◌+◌, ◌-◌}
 use native.Mathlib.Omega.{arith}
-use lib.ListN.{length-set}
 use Rattle.codec.proofs.Le.{put-at, put_step, put_none}
 use Rattle.codec.proofs.store_le.Goals as goal
-
-pub loop-i-init : goal.loop-i-init
-loop-i-init c = (omega arith, refl, put-at _ (omega arith) (omega arith) refl)
 
 pub loop-i-preserved : goal.loop-i-preserved
 loop-i-preserved c =
     let a = c.args in
-    let step = put_step (a.n - (c.loop-i.i + 1)) c.loop-i.t (a.at + c.loop-i.i) c.loop-i.y in (
-      omega arith,
-      simp length-set (omega arith),
-      put-at _ refl (omega arith) refl ∙ sym step ∙ put-at _ (omega arith) refl refl ∙ c.loop-i.invariant.2,
-    )
+    let step = put_step (a.n - (c.loop-i.i + 1)) c.loop-i.t (a.at + c.loop-i.i) c.loop-i.y in
+    put-at _ refl (omega arith) refl ∙ sym step ∙ put-at _ (omega arith) refl refl ∙ c.loop-i.invariant
 
 pub returns : goal.returns
-returns c = sym (put_none _ _ _) ∙ put-at _ (omega arith) refl refl ∙ c.loop-i.invariant.2
+returns c = sym (put_none _ _ _) ∙ put-at _ (omega arith) refl refl ∙ c.loop-i.invariant

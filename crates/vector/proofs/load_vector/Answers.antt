@@ -1,22 +1,13 @@
--- `vector::load_vector` meets its contract: the first i entries are loaded.
-use mathlib.Core.Path.{sym, ◌∙◌}
-use native.Mathlib.Omega.{arith}
-use borrow.Author.Count.{below_none}
+-- `vector::load_vector` meets its contract: each of the four entries is loaded.
 use borrow.Author.Rules.{rules}
-use lib.ListN.{length-set}
-use Rattle.vector.proofs.Entries.{fill_more, entry_is, load_vec-below, load_vec-beyond}
+use Rattle.codec.proofs.Below.{none, first}
+use Rattle.vector.specs.Entries.{entry, load_vec}
+use Rattle.vector.proofs.Entries.{entry_is, load_vec-beyond}
 use Rattle.vector.proofs.load_vector.Goals as goal
 
-pub loop-i-init : goal.loop-i-init
-loop-i-init c = (omega arith, search rules, below_none _)
-
-pub loop-i-preserved : goal.loop-i-preserved
-loop-i-preserved c =
-    let a = c.args in
-    let got = c.load_u64.ensures ∙ sym (load_vec-below a.t.now a.at c.loop-i.i (omega arith)) in
-    (omega arith, simp length-set (omega arith), fill_more _ c.loop-i.e c.loop-i.i _ (omega arith) c.loop-i.invariant.2 got)
-
 pub returns : goal.returns
+unfolding entry load_vec
 returns c =
     let a = c.args in
-    entry_is _ c.loop-i.e c.loop-i.invariant.1 (load_vec-beyond a.t.now a.at) (λ k b. c.loop-i.invariant.2 k (omega arith))
+    entry_is _ c.from_fn.result c.from_fn.ensures.items.long (load_vec-beyond a.t.now a.at)
+    (first _ 3 (search rules) (first _ 2 (search rules) (first _ 1 (search rules) (first _ 0 (search rules) (none _)))))

@@ -7,15 +7,14 @@ use Rattle.vector.specs.Entries.{entry}
 use Rattle.vector.proofs.Vector.at_most_but.Goals as goal
 
 pub loop-i-init : goal.loop-i-init
-loop-i-init c = (omega arith, sym (all_below_none _))
+loop-i-init c = sym (all_below_none _)
 
 pub loop-i-preserved : goal.loop-i-preserved
 unfolding entry
-loop-i-preserved c =
-    (omega arith, rw c.loop-i.invariant.1 (sym (all_below-step c.loop-i.i _)))
+loop-i-preserved c = rw c.loop-i.invariant (sym (all_below-step c.loop-i.i _))
 
 pub returns : goal.returns
 unfolding at_most_but
 returns c =
     let e : c.loop-i.i ≡ 4 = omega arith in
-    rw e at c.loop-i.invariant.1
+    rw e at c.loop-i.invariant

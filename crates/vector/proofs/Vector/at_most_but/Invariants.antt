@@ -1,13 +1,9 @@
 use mathlib.Core.Path.{◌≡◌}
 use mathlib.Core.Bool.{◌||◌}
-use Prim.Native.Nat.{◌-◌, ◌≤◌}
 use lib.Dec.{leb, eqb}
 use Rattle.codec.specs.Below.{all_below}
 use Rattle.vector.specs.Entries.{entry}
 use Rattle.vector.proofs.Vector.at_most_but.Given as goal
 
 abbrev pub invariant-loop-i : goal.invariant-loop-i
-invariant-loop-i l = (l.i ≤ 4) × (l.all ≡ all_below l.i (λ k. eqb k l.m || leb (entry l.u k) (entry l.v k)))
-
-abbrev pub decreases-loop-i : goal.decreases-loop-i
-decreases-loop-i l = 4 - l.i
+invariant-loop-i l = l.all ≡ all_below l.i (λ k. eqb k l.m || leb (entry l.u k) (entry l.v k))

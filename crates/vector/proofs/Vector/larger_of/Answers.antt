@@ -1,22 +1,14 @@
--- `vector::Vector::larger_of` meets its contract: the first i entries are the larger ones.
-use native.Mathlib.Omega.{arith}
-use borrow.Author.Count.{below_none}
+-- `vector::Vector::larger_of` meets its contract: each of the four entries is the larger one.
 use borrow.Author.Rules.{rules}
-use lib.ListN.{length-set}
+use Rattle.codec.proofs.Below.{none, first}
 use Rattle.vector.specs.Vec.{larger}
 use Rattle.vector.specs.Entries.{entry}
-use Rattle.vector.proofs.Entries.{fill_more, entry_is, larger_narrow}
+use Rattle.vector.proofs.Entries.{entry_is, larger_narrow}
 use Rattle.vector.proofs.Vector.larger_of.Goals as goal
 
-pub loop-i-init : goal.loop-i-init
-loop-i-init c = (omega arith, search rules, below_none _)
-
-pub loop-i-preserved : goal.loop-i-preserved
-unfolding entry larger
-loop-i-preserved c =
-    (omega arith, simp length-set (omega arith), fill_more _ c.loop-i.w c.loop-i.i _ (omega arith) c.loop-i.invariant.2 c.later.ensures)
-
 pub returns : goal.returns
+unfolding entry larger
 returns c =
     let a = c.args in
-    entry_is _ c.loop-i.w c.loop-i.invariant.1 (larger_narrow a.self.entries a.o.entries (search rules) (search rules)) (λ k b. c.loop-i.invariant.2 k (omega arith))
+    entry_is _ c.from_fn.result c.from_fn.ensures.items.long (larger_narrow a.self.entries a.o.entries (search rules) (search rules))
+    (first _ 3 (search rules) (first _ 2 (search rules) (first _ 1 (search rules) (first _ 0 (search rules) (none _)))))
