@@ -3,7 +3,7 @@
 
 #![tactic(auto)]
 
-ghost use Rattle.std.specs.Prelude.{◌≡◌, ◌+◌, ◌/◌, min, length, replicate};
+ghost use Rattle.std.specs.Prelude.{◌≡◌, ◌+◌, ◌/◌, min, length};
 ghost use Rattle.steps.specs.Step.{gives};
 ghost use Rattle.steps.specs.Run.{ran};
 ghost use Rattle.archive.specs.Call.{setup_call, step_call};
@@ -17,16 +17,6 @@ pub mod port;
 // R10: exactly 57,344 bytes
 pub const TABLE: usize = 57344;
 
-fn clear(t: &mut [u8])
-    ensures { t.new ≡ replicate (length t.old) 0 }
-{
-    let mut i = 0;
-    while i < t.len() {
-        t[i] = 0;
-        i += 1;
-    }
-}
-
 // Makes everything empty with clocks and vectors 0, for 1 to 4 sites and partitions; any bytes may lie in the table before.
 pub fn setup(table: &mut [u8], sites: u32, partitions: u32) -> Answer
     ensures { gives result table.new ≡ setup_call table.old sites partitions }
@@ -37,7 +27,7 @@ pub fn setup(table: &mut [u8], sites: u32, partitions: u32) -> Answer
     if !(lawful::number_lawful(sites) & lawful::number_lawful(partitions)) {
         return answers::refused(11);
     }
-    clear(table);
+    table.fill(0);
     codec::store_le(table, 0, 1, sites as u64);
     codec::store_le(table, 1, 1, partitions as u64);
     Answer::Done
@@ -63,13 +53,7 @@ pub fn step(table: &mut [u8], event: &[u8]) -> Answer
 fn pieces_for(events: usize, answers: usize) -> usize
     ensures { result ≡ min ((events + 31) / 32) (answers / 16) }
 {
-    let whole = events / 32;
-    let room = answers / 16;
-    if whole < room {
-        if events % 32 == 0 { whole } else { whole + 1 }
-    } else {
-        room
-    }
+    events.div_ceil(32).min(answers / 16)
 }
 
 // Many events: what `step` gives one by one, with each answer in 16 bytes. The number of events that were answered is given back.

@@ -1,5 +1,5 @@
 // The range of each field, whether its code uses it or not: refusal 11's numbers. In order: page keys, all ten fields. It touches nothing.
-ghost use Rattle.std.specs.Prelude.{◌≡◌, ◌≤◌, min};
+ghost use Rattle.std.specs.Prelude.{◌≡◌};
 ghost use Rattle.protocol.specs.Meaning.{setting_of};
 ghost use Rattle.event.specs.Ranges.{keys_below, in_range};
 
@@ -7,23 +7,14 @@ use crate::Fields;
 use protocol::limits;
 use protocol::limits::Setting;
 
-// How many of the eight page keys the count names.
-fn named(count: u8) -> usize
-    ensures { (result ≡ min 8 count) × (result ≤ 8) }
-{
-    if count < 8 { count as usize } else { 8 }
-}
-
 // The keys below the count, of the eight that there are, are 0 to 63.
 fn keys_lawful(keys: [u8; 8], count: u8) -> bool
     ensures { result ≡ keys_below keys count }
 {
-    let n = named(count);
+    let n = usize::from(count.min(8));
     let mut all = true;
-    let mut i = 0;
-    while i < n {
-        all = all & (keys[i] < 64);
-        i += 1;
+    for i in 0..n {
+        all &= keys[i] < 64;
     }
     all
 }

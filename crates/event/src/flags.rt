@@ -59,10 +59,8 @@ pub fn rest_zero(e: &[u8]) -> bool
     }
     let count = codec::load_u8(e, 7) as usize;
     let mut all = true;
-    let mut i = 0;
-    while i < 8 {
-        all = all & ((i < count) | (codec::load_u8(e, 20 + i) == 0));
-        i += 1;
+    for i in 0..8 {
+        all &= (i < count) | (codec::load_u8(e, 20 + i) == 0);
     }
     all
 }

@@ -66,10 +66,8 @@ fn each_lawful(used: [bool; 10], zero: [bool; 10], within: [bool; 10]) -> bool
     ensures { result ≡ all_below 10 (field_lawful used zero within) }
 {
     let mut all = true;
-    let mut f = 0;
-    while f < 10 {
-        all = all & ((used[f] | zero[f]) & (!used[f] | within[f]));
-        f += 1;
+    for f in 0..10 {
+        all &= (used[f] | zero[f]) & (!used[f] | within[f]);
     }
     all
 }

@@ -3,20 +3,14 @@
 
 #![tactic(auto)]
 
-ghost use Rattle.std.specs.Prelude.{◌≡◌, min};
+ghost use Rattle.std.specs.Prelude.{◌≡◌};
 ghost use Rattle.reader.specs.Pieces.{piece_of};
 
-// The bytes, and how many pieces of them stand before the place.
+// The bytes, and how many pieces of them stand before the place. Not `chunks(32)`: the scope paper names this form (docs/DECISIONS.md).
 #[derive(Drop)]
 pub struct Reader<'a> {
     pub events: &'a [u8],
     pub place: usize,
-}
-
-fn at_most_32(left: usize) -> usize
-    ensures { result ≡ min 32 left }
-{
-    if left < 32 { left } else { 32 }
 }
 
 // Piece i: 32 bytes, fewer at the end, none beyond it.
@@ -28,7 +22,7 @@ fn piece(events: &[u8], i: usize) -> &[u8]
         return &events[0..0];
     }
     let from = 32 * i;
-    let end = from + at_most_32(n - from);
+    let end = from + (n - from).min(32);
     &events[from..end]
 }
 

@@ -35,10 +35,8 @@ pub fn run(t: &mut [u8], es: &[u8], b: &mut [u8], n: usize)
     requires { Whole t.old × T (well_formed t.old) × (16 * n ≤ length b.old) }
     ensures { ran t.new b.new ≡ run_by piece_call n t.old es.now b.old }
 {
-    let mut i = 0;
-    while i < n {
+    for i in 0..n {
         answer_piece(t, es, b, i);
-        i += 1;
     }
 }
 
@@ -64,9 +62,7 @@ pub fn refuse_all(es: &[u8], b: &mut [u8], n: usize, number: u8)
     requires { 16 * n ≤ length b.old }
     ensures { (t : List ℕ) → ran t b.new ≡ run_by (piece_refused number) n t es.now b.old }
 {
-    let mut i = 0;
-    while i < n {
+    for i in 0..n {
         refuse_piece(es, b, i, number);
-        i += 1;
     }
 }

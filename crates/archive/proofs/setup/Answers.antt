@@ -1,6 +1,8 @@
--- `archive::setup` meets its contract: the tests by `setup_23`, `setup_11` and `setup_done`, the bytes by what `clear` and the two stores ensure.
+-- `archive::setup` meets its contract: the tests by `setup_23`, `setup_11` and `setup_done`, the bytes by what `fill` and the two stores ensure.
 use mathlib.Core.Path.{◌≡◌, sym, ap, ◌∙◌}
-use mathlib.Core.Bool.{◌&&◌}
+use mathlib.Core.Bool.{Bool, ◌&&◌}
+use Prim.Native.Nat.{ℕ}
+use lib.Dec.{ltb, leb}
 use borrow.Author.Rules.{rules}
 use Rattle.codec.proofs.Tests.{fails, passes}
 use Rattle.protocol.specs.declared.Answer.TheVariants.{Done}
@@ -10,6 +12,10 @@ use Rattle.steps.specs.Step.{gives}
 use Rattle.archive.proofs.Calls.{setup_23, setup_11, setup_done}
 use Rattle.archive.proofs.setup.Goals as goal
 
+-- the code's two tests are the test of the setting
+numbers_lawful : (m n : ℕ) {x y : Bool} → x ≡ (ltb 0 m && leb m 4) → y ≡ (ltb 0 n && leb n 4) → (x && y) ≡ setting_lawful (record { sites = m; partitions = n })
+numbers_lawful m n p q = rw (p, q) (setting_tests m n)
+
 pub returns-then-table-ne-TABLE : goal.returns-then-table-ne-TABLE
 returns-then-table-ne-TABLE c =
     let a = c.args in
@@ -18,13 +24,9 @@ returns-then-table-ne-TABLE c =
 pub returns-then-not-number_lawful : goal.returns-then-not-number_lawful
 returns-then-not-number_lawful c =
     let a = c.args in
-    let lawful_is : (c.number_lawful.result && c.number_lawful-2.result) ≡ setting_lawful (record { sites = a.sites; partitions = a.partitions }) =
-    rw (c.number_lawful.ensures, c.number_lawful-2.ensures) (setting_tests _ _) in
-    ap (λ r. gives r a.table.now) c.refused-then-not-number_lawful.ensures ∙ sym (setup_11 a.table.now a.sites a.partitions (search rules) (fails lawful_is c.if-not-number_lawful.true))
+    ap (λ r. gives r a.table.now) c.refused-then-not-number_lawful.ensures ∙ sym (setup_11 a.table.now a.sites a.partitions (search rules) (fails (numbers_lawful _ _ c.number_lawful.ensures c.number_lawful-2.ensures) c.if-not-number_lawful.true))
 
 pub returns : goal.returns
 returns c =
     let a = c.args in
-    let lawful_is : (c.number_lawful.result && c.number_lawful-2.result) ≡ setting_lawful (record { sites = a.sites; partitions = a.partitions }) =
-    rw (c.number_lawful.ensures, c.number_lawful-2.ensures) (setting_tests _ _) in
-    ap (λ t. gives Done t) (c.store_le-2.ensures ∙ rw (c.store_le.ensures, c.clear.ensures)) ∙ sym (setup_done a.table.now a.sites a.partitions (search rules) (passes lawful_is c.if-not-number_lawful.false))
+    ap (λ t. gives Done t) (c.store_le-2.ensures ∙ rw (c.store_le.ensures, c.fill.ensures.after (λ y h. h))) ∙ sym (setup_done a.table.now a.sites a.partitions (search rules) (passes (numbers_lawful _ _ c.number_lawful.ensures c.number_lawful-2.ensures) c.if-not-number_lawful.false))

@@ -11,4 +11,4 @@ returns-then-n-i c =
 pub returns : goal.returns
 returns c =
     let a = c.args in
-    piece_cut a.events.now a.i c.at_most_32.result c.at_most_32.ensures
+    piece_cut a.events.now a.i c.min.result (omega arith)

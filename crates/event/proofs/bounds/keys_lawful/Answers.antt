@@ -7,14 +7,13 @@ use Rattle.event.specs.Ranges.{keys_below}
 use Rattle.event.proofs.bounds.keys_lawful.Goals as goal
 
 pub loop-i-init : goal.loop-i-init
-loop-i-init c = (omega arith, c.named-n.ensures.1, c.named-n.ensures.0, sym (all_below_none _))
+loop-i-init c = sym (all_below_none _)
 
 pub loop-i-preserved : goal.loop-i-preserved
-loop-i-preserved c =
-    (omega arith, c.loop-i.invariant.1, c.loop-i.invariant.2, rw c.loop-i.invariant.3 (sym (all_below-step c.loop-i.i _)))
+loop-i-preserved c = rw c.loop-i.invariant (sym (all_below-step c.loop-i.i _))
 
 pub returns : goal.returns
 unfolding keys_below
 returns c =
     let e : c.loop-i.i ≡ min 8 c.args.count = omega arith in
-    rw e at c.loop-i.invariant.3
+    rw e at c.loop-i.invariant

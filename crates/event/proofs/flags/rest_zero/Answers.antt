@@ -7,19 +7,17 @@ use Rattle.event.proofs.Keys.{rest_none}
 use Rattle.event.proofs.flags.rest_zero.Goals as goal
 
 pub returns-then-load_u64-eq0 : goal.returns-then-load_u64-eq0
-returns-then-load_u64-eq0 c =
-    let z : c.load_u64.result ≡ 0 = omega arith in
-    sym (rest_none c.args.e.now (sym c.load_u64.ensures ∙ z))
+returns-then-load_u64-eq0 c = sym (rest_none c.args.e.now (sym c.load_u64.ensures ∙ c.if-load_u64-eq0.true))
 
 pub loop-i-init : goal.loop-i-init
-loop-i-init c = (omega arith, c.load_u8-count.ensures, sym (all_below_none _))
+loop-i-init c = sym (all_below_none _)
 
 pub loop-i-preserved : goal.loop-i-preserved
 loop-i-preserved c =
-    (omega arith, c.loop-i.invariant.1, rw (c.loop-i.invariant.2, c.load_u8.ensures) (sym (all_below-step c.loop-i.i _)))
+    rw (c.loop-i.invariant, c.load_u8-count.ensures, c.load_u8.ensures) (sym (all_below-step c.loop-i.i _))
 
 pub returns : goal.returns
 unfolding rest_zero
 returns c =
     let e : c.loop-i.i ≡ 8 = omega arith in
-    rw (e, c.loop-i.invariant.1) at c.loop-i.invariant.2
+    rw e at c.loop-i.invariant

@@ -1,4 +1,3 @@
-use Prim.Native.Nat.{◌-◌, ◌≤◌}
 use mathlib.Core.Path.{◌≡◌}
 use lib.ListN.{length}
 use Rattle.lawful.proofs.Steps.{Sound}
@@ -6,7 +5,4 @@ use Rattle.steps.specs.Run.{ran, run_by, piece_call}
 use Rattle.steps.proofs.runs.run.Given as goal
 
 abbrev pub invariant-loop-i : goal.invariant-loop-i
-invariant-loop-i l = (l.i ≤ l.n) × Sound (length l.initial.t) l.t × (length l.b ≡ length l.initial.b) × (ran l.t l.b ≡ run_by piece_call l.i l.initial.t l.es l.initial.b)
-
-abbrev pub decreases-loop-i : goal.decreases-loop-i
-decreases-loop-i l = l.n - l.i
+invariant-loop-i l = Sound (length l.initial.t) l.t × (ran l.t l.b ≡ run_by piece_call l.i l.initial.t l.es l.initial.b)
