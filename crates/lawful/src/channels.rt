@@ -15,13 +15,11 @@ fn messages_formed(b: &[u8], setting: Setting, i: u8, p: u8, front: u8, wait: u8
     requires { (length b.now ≡ 464) × (0 < setting.partitions) }
     ensures { result ≡ all_below wait (λ k. message_formed (setting_of setting) i p b.now (ring_at front k)) }
 {
-    let mut k = 0;
-    while k < wait {
+    for k in 0..wait {
         let at = 16 + 56 * ((front as usize + k as usize) % 8);
         if !formed::message_formed(b, at, setting, i, p) {
             return false;
         }
-        k += 1;
     }
     true
 }

@@ -9,10 +9,8 @@ pub fn same_places(a: &[u8], b: &[u8]) -> bool
     ensures { result ≡ all_below 64 (λ k. eqb (load 1 a.now k) (load 1 b.now k)) }
 {
     let mut same = true;
-    let mut i = 0;
-    while i < 8 {
-        same = same & (codec::load_u64(a, 8 * i) == codec::load_u64(b, 8 * i));
-        i += 1;
+    for i in 0..8 {
+        same &= codec::load_u64(a, 8 * i) == codec::load_u64(b, 8 * i);
     }
     same
 }

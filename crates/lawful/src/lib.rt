@@ -37,12 +37,10 @@ fn sessions_formed(t: &[u8], setting: Setting) -> bool
     requires { Long t.now }
     ensures { result ≡ all_below 16 (λ s. session_formed (setting_of setting) (session_of t.now s)) }
 {
-    let mut s = 0;
-    while s < 16 {
+    for s in 0..16 {
         if !sessions::session_formed(places::session(t, s), setting) {
             return false;
         }
-        s += 1;
     }
     true
 }
@@ -51,12 +49,10 @@ fn sites_formed(t: &[u8], setting: Setting) -> bool
     requires { Whole t.now × (0 < setting.partitions) }
     ensures { result ≡ (all_below 4 (λ m. site_formed (setting_of setting) m (site_of t.now m)) && all_below 4 (λ m. all_below 4 (λ p. kept_formed (setting_of setting) (node_of (site_of t.now m) p) (kept_of t.now m p)))) }
 {
-    let mut m = 0;
-    while m < 4 {
+    for m in 0..4 {
         if !sites::site_formed(t, setting, m) {
             return false;
         }
-        m += 1;
     }
     true
 }

@@ -24,15 +24,12 @@ fn records_formed(n: &[u8], s: &[u8], setting: Setting, p: u8, held: u8) -> bool
     ensures { result ≡ (all_below held (λ k. record_formed (setting_of setting) p n.now (slot_at k)) && kept_formed (setting_of setting) n.now s.now) }
 {
     let mut best = [0u8; 64];
-    let mut k = 0;
-    while k < held {
-        let slot = k as usize;
+    for slot in 0..held as usize {
         if !formed::record_formed(n, 64 + 56 * slot, setting, p) {
             return false;
         }
         let key = codec::load_u8(n, 64 + 56 * slot) as usize;
         best[key] = search::later(n, slot, best[key] as usize) as u8;
-        k += 1;
     }
     kept::same_places(s, &best)
 }

@@ -11,12 +11,10 @@ fn holds_key(b: &[u8], at: usize, n: usize, k: u8) -> bool
     requires { at + n ≤ length b.now }
     ensures { result ≡ has (tabulate n (λ i. load 1 b.now (at + i))) k }
 {
-    let mut i = 0;
-    while i < n {
+    for i in 0..n {
         if codec::load_u8(b, at + i) == k {
             return true;
         }
-        i += 1;
     }
     false
 }
@@ -26,8 +24,7 @@ fn keys_formed(b: &[u8], at: usize, n: usize) -> bool
     requires { at + n ≤ length b.now }
     ensures { result ≡ (keys_lawful (tabulate n (λ i. load 1 b.now (at + i))) && distinct (tabulate n (λ i. load 1 b.now (at + i)))) }
 {
-    let mut i = 0;
-    while i < n {
+    for i in 0..n {
         let k = codec::load_u8(b, at + i);
         if 64 <= k {
             return false;
@@ -35,7 +32,6 @@ fn keys_formed(b: &[u8], at: usize, n: usize) -> bool
         if holds_key(b, at, i, k) {
             return false;
         }
-        i += 1;
     }
     true
 }

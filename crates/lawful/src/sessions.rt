@@ -18,12 +18,10 @@ fn flags_formed(b: &[u8], at: usize, n: usize) -> bool
     requires { at + n ≤ length b.now }
     ensures { result ≡ flags_at b.now at n }
 {
-    let mut i = 0;
-    while i < n {
+    for i in 0..n {
         if FLAGS <= codec::load_u8(b, at + i) {
             return false;
         }
-        i += 1;
     }
     true
 }

@@ -14,12 +14,10 @@ fn channels_formed(site: &[u8], setting: Setting, m: u8, p: u8) -> bool
     requires { (length site.now ≡ 13056) × (0 < setting.partitions) × (p < 4) }
     ensures { result ≡ all_below 3 (λ d. channel_formed (setting_of setting) m p d (channel_of site.now p d)) }
 {
-    let mut d = 0;
-    while d < 3 {
+    for d in 0..3 {
         if !channels::channel_formed(places::channel_of(site, p, d as usize), setting, m, p, d) {
             return false;
         }
-        d += 1;
     }
     true
 }
@@ -30,8 +28,7 @@ pub fn site_formed(t: &[u8], setting: Setting, m: u8) -> bool
     ensures { result ≡ (site_formed (setting_of setting) m (site_of t.now m) && all_below 4 (λ p. kept_formed (setting_of setting) (node_of (site_of t.now m) p) (kept_of t.now m p))) }
 {
     let site = places::site(t, m);
-    let mut p = 0;
-    while p < 4 {
+    for p in 0..4 {
         if !nodes::node_formed(
             places::node_of(site, p),
             places::kept(t, m, p),
@@ -44,7 +41,6 @@ pub fn site_formed(t: &[u8], setting: Setting, m: u8) -> bool
         if !channels_formed(site, setting, m, p) {
             return false;
         }
-        p += 1;
     }
     true
 }

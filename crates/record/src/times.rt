@@ -47,13 +47,10 @@ fn entry_lawful(x: u64, i: usize, setting: Setting) -> bool
 fn vector_lawful(v: Vector, setting: Setting) -> bool
     ensures { result ≡ vec_lawful (setting_of setting) (as_vec v) }
 {
-    let e = v.entries;
-    let mut i = 0;
-    while i < Vector::WIDTH {
-        if !entry_lawful(e[i], i, setting) {
+    for (i, x) in v.entries.iter().enumerate() {
+        if !entry_lawful(*x, i, setting) {
             return false;
         }
-        i += 1;
     }
     true
 }
@@ -71,12 +68,10 @@ pub fn none_above(b: &[u8], at: usize, x: u64) -> bool
     requires { at + 32 ≤ length b.now }
     ensures { result ≡ all_below width (λ i. leb (load_vec b.now at i) x) }
 {
-    let mut i = 0;
-    while i < Vector::WIDTH {
+    for i in 0..Vector::WIDTH {
         if x < codec::load_u64(b, at + 8 * i) {
             return false;
         }
-        i += 1;
     }
     true
 }

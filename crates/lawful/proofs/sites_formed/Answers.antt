@@ -19,7 +19,7 @@ both : (t : List ℕ) (c : Setting) → all_below 4 (λ k. site_formed c k (site
 both t c = all_below-and 4 _ _
 
 pub loop-m-init : goal.loop-m-init
-loop-m-init c = (omega arith, all_below_none _)
+loop-m-init c = all_below_none _
 
 pub returns-then-not-site_formed : goal.returns-then-not-site_formed
 returns-then-not-site_formed c =
@@ -30,10 +30,10 @@ returns-then-not-site_formed c =
 pub loop-m-preserved : goal.loop-m-preserved
 loop-m-preserved c =
     let yes = passes c.site_formed.ensures c.if-not-site_formed.false in
-    (omega arith, all_below_more c.loop-m.m _ c.loop-m.invariant.1 yes)
+    all_below_more c.loop-m.m _ c.loop-m.invariant yes
 
 pub returns : goal.returns
 returns c =
     let a = c.args in
     let e : c.loop-m.m ≡ 4 = omega arith in
-    sym (rw e at c.loop-m.invariant.1) ∙ both a.t.now (setting_of a.setting)
+    sym (rw e at c.loop-m.invariant) ∙ both a.t.now (setting_of a.setting)

@@ -6,14 +6,14 @@ use Rattle.lawful.proofs.Bests.{words_are_bytes}
 use Rattle.lawful.proofs.kept.same_places.Goals as goal
 
 pub loop-i-init : goal.loop-i-init
-loop-i-init c = (omega arith, sym (all_below_none _))
+loop-i-init c = sym (all_below_none _)
 
 pub loop-i-preserved : goal.loop-i-preserved
 loop-i-preserved c =
-    (omega arith, rw (c.load_u64-in-loop-i.ensures, c.load_u64.ensures, c.loop-i.invariant.1) (sym (all_below-step c.loop-i.i _)))
+    rw (c.load_u64-in-loop-i.ensures, c.load_u64.ensures, c.loop-i.invariant) (sym (all_below-step c.loop-i.i _))
 
 pub returns : goal.returns
 returns c =
     let a = c.args in
     let e : c.loop-i.i ≡ 8 = omega arith in
-    rw e at c.loop-i.invariant.1 ∙ words_are_bytes a.a.now a.b.now c.type_inv.a c.type_inv.b
+    rw e at c.loop-i.invariant ∙ words_are_bytes a.a.now a.b.now c.type_inv.a c.type_inv.b

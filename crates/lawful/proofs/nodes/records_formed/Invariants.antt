@@ -1,6 +1,5 @@
 use mathlib.Core.Path.{◌≡◌}
 use mathlib.Core.Bool.{true}
-use Prim.Native.Nat.{◌-◌, ◌≤◌}
 use lib.ListN.{length}
 use Rattle.codec.specs.Below.{all_below}
 use Rattle.protocol.specs.Meaning.{setting_of}
@@ -9,9 +8,6 @@ use Rattle.parts.specs.Node.{slot_at}
 use Rattle.lawful.proofs.Bests.{Bests}
 use Rattle.lawful.proofs.nodes.records_formed.Given as goal
 
-abbrev pub invariant-loop-k : goal.invariant-loop-k
-invariant-loop-k l =
-    (l.k ≤ l.held) × (all_below l.k (λ j. record_formed (setting_of l.setting) l.p l.n (slot_at j)) ≡ true) × (length l.best ≡ 64) × Bests l.n l.k l.best
-
-abbrev pub decreases-loop-k : goal.decreases-loop-k
-decreases-loop-k l = l.held - l.k
+abbrev pub invariant-loop-slot : goal.invariant-loop-slot
+invariant-loop-slot l =
+    (all_below l.slot (λ j. record_formed (setting_of l.setting) l.p l.n (slot_at j)) ≡ true) × (length l.best ≡ 64) × Bests l.n l.slot l.best

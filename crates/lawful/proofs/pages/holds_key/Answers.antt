@@ -8,7 +8,7 @@ use Rattle.lawful.proofs.KeyTests.{has_none}
 use Rattle.lawful.proofs.pages.holds_key.Goals as goal
 
 pub loop-i-init : goal.loop-i-init
-loop-i-init c = (omega arith, all_below_none _)
+loop-i-init c = all_below_none _
 
 pub returns-then-load_u8-k : goal.returns-then-load_u8-k
 returns-then-load_u8-k c =
@@ -18,9 +18,9 @@ returns-then-load_u8-k c =
 pub loop-i-preserved : goal.loop-i-preserved
 loop-i-preserved c =
     let other = ne_eqb _ _ (λ e. c.if-load_u8-k.false (c.load_u8.ensures ∙ e)) in
-    (omega arith, all_below_more c.loop-i.i _ c.loop-i.invariant.1 (ap not other))
+    all_below_more c.loop-i.i _ c.loop-i.invariant (ap not other)
 
 pub returns : goal.returns
 returns c =
     let e : c.loop-i.i ≡ c.args.n = omega arith in
-    sym (not-true _ (has_none _ _ _ ∙ rw e at c.loop-i.invariant.1))
+    sym (not-true _ (has_none _ _ _ ∙ rw e at c.loop-i.invariant))

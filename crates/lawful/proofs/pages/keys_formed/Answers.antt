@@ -8,7 +8,7 @@ use Rattle.lawful.proofs.KeyTests.{keys_all}
 use Rattle.lawful.proofs.pages.keys_formed.Goals as goal
 
 pub loop-i-init : goal.loop-i-init
-loop-i-init c = (omega arith, all_below_none _)
+loop-i-init c = all_below_none _
 
 pub returns-then-k-ge64 : goal.returns-then-k-ge64
 returns-then-k-ge64 c =
@@ -27,9 +27,9 @@ loop-i-preserved c =
     let key = c.load_u8-k in
     let low = lt-ltb key.result 64 c.if-k-ge64.false in
     let new = rw (c.holds_key.ensures, key.ensures) at c.if-holds_key.false in
-    (omega arith, all_below_more c.loop-i.i _ c.loop-i.invariant.1 (rw (new, ← key.ensures, low)))
+    all_below_more c.loop-i.i _ c.loop-i.invariant (rw (new, ← key.ensures, low))
 
 pub returns : goal.returns
 returns c =
     let e : c.loop-i.i ≡ c.args.n = omega arith in
-    sym (keys_all _ _ ∙ rw e at c.loop-i.invariant.1)
+    sym (keys_all _ _ ∙ rw e at c.loop-i.invariant)

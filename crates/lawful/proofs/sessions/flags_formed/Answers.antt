@@ -7,7 +7,7 @@ use Rattle.lawful.specs.WellFormed.{flags_at}
 use Rattle.lawful.proofs.sessions.flags_formed.Goals as goal
 
 pub loop-i-init : goal.loop-i-init
-loop-i-init c = (omega arith, all_below_none _)
+loop-i-init c = all_below_none _
 
 pub returns-then-load_u8-ge-FLAGS : goal.returns-then-load_u8-ge-FLAGS
 unfolding flags_at
@@ -18,10 +18,10 @@ returns-then-load_u8-ge-FLAGS c =
 pub loop-i-preserved : goal.loop-i-preserved
 loop-i-preserved c =
     let small = rw c.load_u8.ensures at c.if-load_u8-ge-FLAGS.false in
-    (omega arith, all_below_more c.loop-i.i _ c.loop-i.invariant.1 (lt-ltb _ 2 small))
+    all_below_more c.loop-i.i _ c.loop-i.invariant (lt-ltb _ 2 small)
 
 pub returns : goal.returns
 unfolding flags_at
 returns c =
     let e : c.loop-i.i ≡ c.args.n = omega arith in
-    sym (rw e at c.loop-i.invariant.1)
+    sym (rw e at c.loop-i.invariant)

@@ -1,12 +1,12 @@
 -- `lawful::sites::channels_formed` meets its contract: the first d channels passed.
-use mathlib.Core.Path.{◌≡◌, sym}
+use mathlib.Core.Path.{sym}
 use native.Mathlib.Omega.{arith}
 use Rattle.codec.proofs.Tests.{fails, passes}
 use Rattle.codec.proofs.Below.{all_below_none, all_below_more, all_below_fails}
 use Rattle.lawful.proofs.sites.channels_formed.Goals as goal
 
 pub loop-d-init : goal.loop-d-init
-loop-d-init c = (omega arith, all_below_none _)
+loop-d-init c = all_below_none _
 
 pub returns-then-not-channel_formed : goal.returns-then-not-channel_formed
 returns-then-not-channel_formed c =
@@ -16,9 +16,4 @@ returns-then-not-channel_formed c =
 pub loop-d-preserved : goal.loop-d-preserved
 loop-d-preserved c =
     let yes = passes (rw c.channel_of.ensures.0 at c.channel_formed.ensures) c.if-not-channel_formed.false in
-    (omega arith, all_below_more c.loop-d.d _ c.loop-d.invariant.1 yes)
-
-pub returns : goal.returns
-returns c =
-    let e : c.loop-d.d ≡ 3 = omega arith in
-    sym (rw e at c.loop-d.invariant.1)
+    all_below_more c.loop-d.d _ c.loop-d.invariant yes

@@ -1,6 +1,5 @@
 use mathlib.Core.Path.{◌≡◌}
 use mathlib.Core.Bool.{true}
-use Prim.Native.Nat.{◌-◌, ◌≤◌}
 use Rattle.codec.specs.Below.{all_below}
 use Rattle.protocol.specs.Meaning.{setting_of}
 use Rattle.table.specs.Parts.{channel_of}
@@ -9,7 +8,4 @@ use Rattle.lawful.proofs.sites.channels_formed.Given as goal
 
 abbrev pub invariant-loop-d : goal.invariant-loop-d
 invariant-loop-d l =
-    (l.d ≤ 3) × (all_below l.d (λ k. channel_formed (setting_of l.setting) l.m l.p k (channel_of l.site l.p k)) ≡ true)
-
-abbrev pub decreases-loop-d : goal.decreases-loop-d
-decreases-loop-d l = 3 - l.d
+    all_below l.d (λ k. channel_formed (setting_of l.setting) l.m l.p k (channel_of l.site l.p k)) ≡ true

@@ -30,7 +30,7 @@ node_test : (t site n k : List ℕ) (c : Setting) (m p : ℕ) {r : Bool} → n �
 node_test t site n k c m p at_n at_k e = e ∙ rw (at_n, at_k)
 
 pub loop-p-init : goal.loop-p-init
-loop-p-init c = (omega arith, all_below_none _)
+loop-p-init c = all_below_none _
 
 pub returns-then-not-node_formed : goal.returns-then-not-node_formed
 returns-then-not-node_formed c =
@@ -50,10 +50,10 @@ pub loop-p-preserved : goal.loop-p-preserved
 loop-p-preserved c =
     let yes_node = passes (node_test c.args.t.now c.site-site.result.now _ _ (setting_of c.args.setting) c.args.m c.loop-p.p c.node_of.ensures.0 c.kept.ensures.0 c.node_formed.ensures) c.if-not-node_formed.false in
     let yes_channels = passes c.channels_formed.ensures c.if-not-channels_formed.false in
-    (omega arith, all_below_more c.loop-p.p _ c.loop-p.invariant.1 (rw (yes_node, yes_channels)))
+    all_below_more c.loop-p.p _ c.loop-p.invariant (rw (yes_node, yes_channels))
 
 pub returns : goal.returns
 returns c =
     let a = c.args in
     let e : c.loop-p.p ≡ 4 = omega arith in
-    sym (rw e at c.loop-p.invariant.1) ∙ both a.t.now (setting_of a.setting) a.m c.site-site.result.now c.site-site.ensures.0
+    sym (rw e at c.loop-p.invariant) ∙ both a.t.now (setting_of a.setting) a.m c.site-site.result.now c.site-site.ensures.0

@@ -1,7 +1,7 @@
 use mathlib.Core.Path.{◌≡◌}
 use mathlib.Core.Bool.{Bool, true, ◌&&◌}
 use mathlib.Core.List.{List}
-use Prim.Native.Nat.{ℕ, ◌-◌, ◌≤◌}
+use Prim.Native.Nat.{ℕ}
 use Rattle.codec.specs.Below.{all_below}
 use Rattle.protocol.specs.Record.{Setting}
 use Rattle.protocol.specs.Meaning.{setting_of}
@@ -14,7 +14,4 @@ abbrev pub tested : (t : List ℕ) (c : Setting) (m : ℕ) (site : List ℕ) (p 
 tested t c m site p = node_formed c m p (node_of site p) && kept_formed c (node_of site p) (kept_of t m p) && all_below 3 (λ d. channel_formed c m p d (channel_of site p d))
 
 abbrev pub invariant-loop-p : goal.invariant-loop-p
-invariant-loop-p l = (l.p ≤ 4) × (all_below l.p (tested l.t (setting_of l.setting) l.m l.site) ≡ true)
-
-abbrev pub decreases-loop-p : goal.decreases-loop-p
-decreases-loop-p l = 4 - l.p
+invariant-loop-p l = all_below l.p (tested l.t (setting_of l.setting) l.m l.site) ≡ true

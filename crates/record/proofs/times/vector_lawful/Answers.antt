@@ -8,22 +8,20 @@ use Rattle.record.specs.Ranges.{vec_lawful}
 use Rattle.record.proofs.times.vector_lawful.Goals as goal
 
 pub loop-i-init : goal.loop-i-init
-loop-i-init c = (omega arith, all_below_none _)
+loop-i-init c = all_below_none _
 
 pub returns-then-not-entry_lawful : goal.returns-then-not-entry_lawful
 unfolding entry vec_lawful
 returns-then-not-entry_lawful c =
-    let no = fails c.entry_lawful.ensures c.if-not-entry_lawful.true in
-    sym (all_below_fails 4 _ c.loop-i.i (omega arith) no)
+    sym (all_below_fails 4 _ c.loop-i.i (omega arith) (fails c.entry_lawful.ensures c.if-not-entry_lawful.true))
 
 pub loop-i-preserved : goal.loop-i-preserved
 unfolding entry
 loop-i-preserved c =
-    let yes = passes c.entry_lawful.ensures c.if-not-entry_lawful.false in
-    (omega arith, all_below_more c.loop-i.i _ c.loop-i.invariant.1 yes)
+    all_below_more c.loop-i.i _ c.loop-i.invariant (passes c.entry_lawful.ensures c.if-not-entry_lawful.false)
 
 pub returns : goal.returns
 unfolding vec_lawful
 returns c =
     let e : c.loop-i.i ≡ 4 = omega arith in
-    sym (rw e at c.loop-i.invariant.1)
+    sym (rw e at c.loop-i.invariant)

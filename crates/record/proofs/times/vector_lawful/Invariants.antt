@@ -1,6 +1,5 @@
 use mathlib.Core.Path.{◌≡◌}
 use mathlib.Core.Bool.{true, cond}
-use Prim.Native.Nat.{◌-◌, ◌≤◌}
 use lib.Dec.{ltb, eqb}
 use Rattle.codec.specs.Below.{all_below}
 use Rattle.vector.specs.Entries.{entry}
@@ -9,7 +8,4 @@ use Rattle.record.specs.Ranges.{stamp_lawful}
 use Rattle.record.proofs.times.vector_lawful.Given as goal
 
 abbrev pub invariant-loop-i : goal.invariant-loop-i
-invariant-loop-i l = (l.i ≤ 4) × (all_below l.i (λ k. cond (ltb k l.setting.sites) (stamp_lawful (setting_of l.setting) (entry l.e k)) (eqb (entry l.e k) 0)) ≡ true)
-
-abbrev pub decreases-loop-i : goal.decreases-loop-i
-decreases-loop-i l = 4 - l.i
+invariant-loop-i l = all_below l.i (λ k. cond (ltb k l.setting.sites) (stamp_lawful (setting_of l.setting) (entry l.x-items k)) (eqb (entry l.x-items k) 0)) ≡ true
