@@ -12,10 +12,8 @@ fn holds(keys: [u8; 8], count: usize, from: usize, k: u8) -> bool
     ensures { result ≡ has (keys_from keys from count) k }
 {
     let mut any = false;
-    let mut i = count;
-    while from < i {
-        i -= 1;
-        any = (keys[i] == k) | any;
+    for i in (from..count).rev() {
+        any |= keys[i] == k;
     }
     any
 }
@@ -26,10 +24,8 @@ pub fn distinct(keys: [u8; 8], count: usize) -> bool
     ensures { result ≡ distinct (keys_on keys count) }
 {
     let mut all = true;
-    let mut i = count;
-    while 0 < i {
-        i -= 1;
-        all = !holds(keys, count, i + 1, keys[i]) & all;
+    for i in (0..count).rev() {
+        all &= !holds(keys, count, i + 1, keys[i]);
     }
     all
 }
@@ -40,10 +36,8 @@ pub fn awaited(keys: [u8; 8], marks: [bool; 8], count: usize, k: u8) -> bool
     ensures { result ≡ awaited k (marks_on keys marks count) }
 {
     let mut any = false;
-    let mut i = count;
-    while 0 < i {
-        i -= 1;
-        any = ((keys[i] == k) & !marks[i]) | any;
+    for i in (0..count).rev() {
+        any |= (keys[i] == k) & !marks[i];
     }
     any
 }
@@ -54,10 +48,8 @@ pub fn all_read(marks: [bool; 8], count: usize) -> bool
     ensures { (keys : List ℕ) → result ≡ all_read (marks_on keys marks count) }
 {
     let mut all = true;
-    let mut i = count;
-    while 0 < i {
-        i -= 1;
-        all = marks[i] & all;
+    for i in (0..count).rev() {
+        all &= marks[i];
     }
     all
 }
@@ -68,10 +60,8 @@ pub fn read(keys: [u8; 8], marks: [bool; 8], count: usize, k: u8) -> [bool; 8]
     ensures { marks_on keys result count ≡ mark_read k (marks_on keys marks count) }
 {
     let mut read = marks;
-    let mut i = 0;
-    while i < count {
+    for i in 0..count {
         read[i] = marks[i] | (keys[i] == k);
-        i += 1;
     }
     read
 }

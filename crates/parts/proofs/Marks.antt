@@ -1,11 +1,12 @@
--- The keys and marks of a page, in two arrays. In order: an array that is filled from the front; the marks put one
+-- The keys and marks of a page, in two arrays. In order: what the arrays say; the byte of a flag; the marks put one
 -- after the other, as the code counts; the marks that are loaded.
 use Prim.Native.Nat.{ℕ, suc, ◌+◌, ◌-◌, ◌≤◌, ◌<◌}
 use native.Mathlib.Nat.{add-zero}
 use native.Mathlib.Numerals.{add-one}
 use native.Mathlib.Omega.{arith}
-use mathlib.Core.Bool.{Bool, false}
-use mathlib.Core.Path.{◌≡◌, ap}
+use mir.Val.{bool_byte}
+use mathlib.Core.Bool.{Bool, true, false}
+use mathlib.Core.Path.{◌≡◌, refl, ap}
 use mathlib.Core.List.{List}
 use lib.Dec.{eqb}
 use lib.ListN.{get_or}
@@ -23,12 +24,12 @@ mark_of keys marks i = record { key = get_or keys i 0; read = get_or marks i fal
 abbrev pub from_to {ℓ} : {A : Type ℓ} → ℕ → ℕ → (ℕ → A) → List A
 from_to i n f = tabulate (n - i) (λ k. f (i + k))
 
--- ---- the marks from place i on
+-- a flag is the byte that a `bool` converts to
+pub flag_is : (b : Bool) → bool_byte b ≡ flag b
+flag_is true = refl
+flag_is false = refl
 
-pub marks_all : (b : List ℕ) (n : ℕ) (f : ℕ → Mark) → put_marks b 0 (from_to 0 n f) ≡ put_marks b 0 (tabulate n f)
-marks_all b n f =
-    let e : n - 0 ≡ n = omega arith in
-    rw e (ap (put_marks b 0) (tab_ext n (λ k. f (0 + k)) f (λ k b. ap f (omega arith))))
+-- ---- the marks from place i on
 
 pub marks_none : (b : List ℕ) (i n : ℕ) (f : ℕ → Mark) → n ≤ i → put_marks b i (from_to i n f) ≡ b
 unfolding tabulate put_marks

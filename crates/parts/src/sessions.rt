@@ -13,10 +13,8 @@ fn load_marks(b: &[u8]) -> [bool; 8]
     ensures { (i : ℕ) → i < 8 → get_or result i false ≡ eqb (load 1 b.now (16 + i)) 1 }
 {
     let mut marks = [false; 8];
-    let mut i = 0;
-    while i < 8 {
-        marks[i] = codec::load_u8(b, 16 + i) == 1;
-        i += 1;
+    for (i, mark) in marks.iter_mut().enumerate() {
+        *mark = codec::load_u8(b, 16 + i) == 1;
     }
     marks
 }
@@ -47,18 +45,12 @@ pub fn load(b: &[u8]) -> Session
     }
 }
 
-fn flag_of(x: bool) -> u8
-    ensures { result ≡ flag x }
-{
-    if x { 1 } else { 0 }
-}
-
 fn store_mark(b: &mut [u8], i: usize, key: u8, read: bool)
     requires { (length b.old ≡ 128) × (i < 8) }
     ensures { b.new ≡ put 1 (put 1 b.old (8 + i) key) (16 + i) (flag read) }
 {
     codec::store_u8(b, 8 + i, key);
-    codec::store_u8(b, 16 + i, flag_of(read));
+    codec::store_u8(b, 16 + i, u8::from(read));
 }
 
 fn store_marks(b: &mut [u8], x: Session)
@@ -68,10 +60,8 @@ fn store_marks(b: &mut [u8], x: Session)
     let keys = x.keys;
     let marks = x.marks;
     let count = x.count as usize;
-    let mut i = 0;
-    while i < count {
+    for i in 0..count {
         store_mark(b, i, keys[i], marks[i]);
-        i += 1;
     }
 }
 
@@ -80,9 +70,9 @@ fn store_head(b: &mut [u8], x: Session)
     requires { length b.old ≡ 128 }
     ensures { b.new ≡ put_all 0 (head_fields (as_session x)) b.old }
 {
-    codec::store_u8(b, 0, flag_of(x.open));
+    codec::store_u8(b, 0, u8::from(x.open));
     codec::store_u8(b, 1, x.site);
-    codec::store_u8(b, 2, flag_of(x.paged));
+    codec::store_u8(b, 2, u8::from(x.paged));
     codec::store_u8(b, 3, x.count);
 }
 

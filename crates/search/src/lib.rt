@@ -82,10 +82,8 @@ fn newest_place(n: &[u8], held: usize, w: Wanted) -> usize
     ensures { (result ≤ held) × ((c : Setting) → result ≡ newest_place c (fits w) (λ k. record_at n.now (slot_at k)) held) }
 {
     let mut best = 0;
-    let mut k = 0;
-    while k < held {
+    for k in 0..held {
         best = better(n, k, best, w);
-        k += 1;
     }
     best
 }

@@ -65,10 +65,8 @@ fn send(site: &mut [u8], n: usize, m: u8, p: usize, x: Letter)
     requires { (length site.old ≡ 13056) × (n ≤ 3) × (p < 4) × Free n p site.old }
     ensures { site.new ≡ sent_to n m p (as_message x) site.old }
 {
-    let mut d = 0;
-    while d < n {
+    for d in 0..n {
         push(site, m, p, d, x);
-        d += 1;
     }
 }
 

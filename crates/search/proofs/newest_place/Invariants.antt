@@ -1,5 +1,4 @@
 use mathlib.Core.Path.{◌≡◌}
-use Prim.Native.Nat.{◌-◌, ◌≤◌}
 use Rattle.protocol.specs.Record.{Setting}
 use Rattle.protocol.specs.Search.{newest_place}
 use Rattle.record.specs.RecordBytes.{record_at}
@@ -8,7 +7,4 @@ use Rattle.search.specs.Found.{fits}
 use Rattle.search.proofs.newest_place.Given as goal
 
 abbrev pub invariant-loop-k : goal.invariant-loop-k
-invariant-loop-k l = (l.k ≤ l.held) × ((c : Setting) → l.best ≡ newest_place c (fits l.w) (λ i. record_at l.n (slot_at i)) l.k)
-
-abbrev pub decreases-loop-k : goal.decreases-loop-k
-decreases-loop-k l = l.held - l.k
+invariant-loop-k l = (c : Setting) → l.best ≡ newest_place c (fits l.w) (λ i. record_at l.n (slot_at i)) l.k

@@ -6,7 +6,4 @@ use Rattle.parts.proofs.Marks.{from_to}
 use Rattle.outcome.proofs.marks.holds.Given as goal
 
 abbrev pub invariant-loop-i : goal.invariant-loop-i
-invariant-loop-i l = (l.from ≤ l.i) × (l.i ≤ l.count) × (l.any ≡ has (from_to l.i l.count (λ j. get_or l.keys j 0)) l.k)
-
-abbrev pub decreases-loop-i : goal.decreases-loop-i
-decreases-loop-i l = l.i
+invariant-loop-i l = (l.from ≤ l.i) × (l.any ≡ has (from_to l.i l.count (λ j. get_or l.keys j 0)) l.k)

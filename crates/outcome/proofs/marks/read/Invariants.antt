@@ -1,12 +1,9 @@
 use mathlib.Core.Path.{◌≡◌}
 use mathlib.Core.Bool.{false, ◌||◌}
-use Prim.Native.Nat.{ℕ, ◌-◌, ◌≤◌, ◌<◌}
+use Prim.Native.Nat.{ℕ, ◌<◌}
 use lib.Dec.{eqb}
 use lib.ListN.{length, get_or}
 use Rattle.outcome.proofs.marks.read.Given as goal
 
 abbrev pub invariant-loop-i : goal.invariant-loop-i
-invariant-loop-i l = (l.i ≤ l.count) × (length l.read ≡ 8) × ((j : ℕ) → j < l.i → get_or l.read j false ≡ (get_or l.marks j false || eqb (get_or l.keys j 0) l.k))
-
-abbrev pub decreases-loop-i : goal.decreases-loop-i
-decreases-loop-i l = l.count - l.i
+invariant-loop-i l = (length l.read ≡ 8) × ((j : ℕ) → j < l.i → get_or l.read j false ≡ (get_or l.marks j false || eqb (get_or l.keys j 0) l.k))

@@ -1,8 +1,9 @@
 -- `parts::sessions::store_head` meets its contract: four stores, the last first.
 use mathlib.Core.Path.{◌∙◌}
 use Rattle.codec.proofs.Tabulate.{tab_length}
+use Rattle.parts.proofs.Marks.{flag_is}
 use Rattle.parts.proofs.sessions.store_head.Goals as goal
 
 pub returns : goal.returns
 returns c =
-    c.store_u8-4.ensures ∙ rw (c.store_u8-3.ensures, c.flag_of-2.ensures, c.store_u8-2.ensures, c.store_u8.ensures, c.flag_of.ensures, tab_length)
+    c.store_u8-4.ensures ∙ rw (c.store_u8-3.ensures, c.from-2.ensures, flag_is, c.store_u8-2.ensures, c.store_u8.ensures, c.from.ensures, flag_is, tab_length)

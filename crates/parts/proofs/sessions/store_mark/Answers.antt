@@ -1,7 +1,8 @@
 -- `parts::sessions::store_mark` meets its contract, by its two stores.
 use mathlib.Core.Path.{◌∙◌}
+use Rattle.parts.proofs.Marks.{flag_is}
 use Rattle.parts.proofs.sessions.store_mark.Goals as goal
 
 pub returns : goal.returns
 returns c =
-    c.store_u8-2.ensures ∙ rw (c.flag_of.ensures, c.store_u8.ensures)
+    c.store_u8-2.ensures ∙ rw (c.from.ensures, flag_is, c.store_u8.ensures)

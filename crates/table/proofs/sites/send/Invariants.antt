@@ -1,12 +1,7 @@
 use mathlib.Core.Path.{◌≡◌}
-use Prim.Native.Nat.{◌-◌, ◌≤◌}
-use lib.ListN.{length}
 use Rattle.record.specs.Meaning.{as_message}
 use Rattle.table.specs.Put.{sent_to}
 use Rattle.table.proofs.sites.send.Given as goal
 
 abbrev pub invariant-loop-d : goal.invariant-loop-d
-invariant-loop-d l = (l.d ≤ l.n) × (length l.site ≡ length l.initial.site) × (l.site ≡ sent_to l.d l.m l.p (as_message l.x) l.initial.site)
-
-abbrev pub decreases-loop-d : goal.decreases-loop-d
-decreases-loop-d l = l.n - l.d
+invariant-loop-d l = l.site ≡ sent_to l.d l.m l.p (as_message l.x) l.initial.site
