@@ -10,7 +10,10 @@ use mir.Facts.{and_yes, yes_and}
 use borrow.Author.Tests.{eq-eqb, ne_eqb}
 use Rattle.codec.specs.Le.{put}
 use Rattle.codec.proofs.Tests.{cond_elim}
-use Rattle.protocol.specs.declared.Answer.TheVariants.{Done}
+use Rattle.protocol.specs.declared.Answer.TheVariants.{Done, Refused}
+use Rattle.protocol.specs.declared.reasons.Reason.{Reason}
+use Rattle.protocol.specs.Event.{plain}
+use Rattle.protocol.specs.Reason.{refusal_for}
 use Rattle.protocol.specs.Step.{step}
 use Rattle.event.specs.Event.{code_lawful, event_of}
 use Rattle.event.specs.Fields.{unused_zero}
@@ -64,11 +67,11 @@ module _ (t e : List ℕ) where
     step_formed l w = rw (eq-eqb (length t) table_length long, eq-eqb (length e) 32 l, w)
 
     -- a piece of any length
-    piece_ill : well_formed t ≡ false → step_call t e ≡ piece_refused 24 t e
+    piece_ill : well_formed t ≡ false → step_call t e ≡ piece_refused Reason.IllFormed t e
     unfolding step_call piece_refused
     piece_ill w = rw (eq-eqb (length t) table_length long, w) (go (eqb (length e) 32))
       where
-        go : (b : Bool) → cond b (refused 24 t) (refused 23 t) ≡ refused (cond b 24 23) t
+        go : (b : Bool) → cond b (refused 24 t) (refused 23 t) ≡ gives (Refused (cond b (plain 24) (plain 23))) t
         go true = refl
         go false = refl
 
@@ -76,11 +79,11 @@ module _ (t e : List ℕ) where
     unfolding step_call piece_call
     piece_formed w = rw (eq-eqb (length t) table_length long, w)
 
-  piece_no_table : length t ≢ table_length → step_call t e ≡ piece_refused 23 t e
+  piece_no_table : length t ≢ table_length → step_call t e ≡ piece_refused Reason.WrongLength t e
   unfolding piece_refused
   piece_no_table d = step_no_table d ∙ go (eqb (length e) 32)
     where
-      go : (b : Bool) → refused 23 t ≡ refused (cond b 23 23) t
+      go : (b : Bool) → refused 23 t ≡ gives (Refused (cond b (plain 23) (plain 23))) t
       go true = refl
       go false = refl
 
@@ -113,15 +116,15 @@ same_runs f g P same keeps t es b p (suc n) =
 
 module _ (t es b : List ℕ) (n : ℕ) where
   -- a table that is refused stays as it is
-  away_runs : (k : ℕ) → ((e : List ℕ) → step_call t e ≡ piece_refused k t e) → run_by step_call n t es b ≡ run_by (piece_refused k) n t es b
+  away_runs : (k : Reason) → ((e : List ℕ) → step_call t e ≡ piece_refused k t e) → run_by step_call n t es b ≡ run_by (piece_refused k) n t es b
   unfolding piece_refused
   away_runs k same = (same_runs step_call (piece_refused k) (λ u. u ≡ t) (λ u e q. rw q (same e)) (λ u e q. q) t es b refl n).0
 
-  pub run_no_table : length t ≢ table_length → run_by step_call n t es b ≡ run_by (piece_refused 23) n t es b
-  run_no_table d = away_runs 23 (λ e. piece_no_table t e d)
+  pub run_no_table : length t ≢ table_length → run_by step_call n t es b ≡ run_by (piece_refused Reason.WrongLength) n t es b
+  run_no_table d = away_runs Reason.WrongLength (λ e. piece_no_table t e d)
 
-  pub run_ill : length t ≡ table_length → well_formed t ≡ false → run_by step_call n t es b ≡ run_by (piece_refused 24) n t es b
-  run_ill l w = away_runs 24 (λ e. piece_ill t e l w)
+  pub run_ill : length t ≡ table_length → well_formed t ≡ false → run_by step_call n t es b ≡ run_by (piece_refused Reason.IllFormed) n t es b
+  run_ill l w = away_runs Reason.IllFormed (λ e. piece_ill t e l w)
 
   pub run_formed : Sound table_length t → run_by step_call n t es b ≡ run_by piece_call n t es b
   run_formed S = (same_runs step_call piece_call (Sound table_length) (λ u e R. piece_formed u e R.size (yes_is (well_formed u) R.formed)) (λ u e R. piece_keeps u e table_length R) t es b S n).0

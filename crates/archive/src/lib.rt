@@ -9,8 +9,8 @@ ghost use Rattle.steps.specs.Run.{ran};
 ghost use Rattle.archive.specs.Call.{setup_call, step_call};
 ghost use Rattle.archive.specs.Run.{pieces_of, run_call};
 
-use protocol::Answer;
-use steps::{answers, runs};
+use protocol::{Answer, Reason};
+use steps::runs;
 
 pub mod port;
 
@@ -22,10 +22,10 @@ pub fn setup(table: &mut [u8], sites: u32, partitions: u32) -> Answer
     ensures { gives result table.new ≡ setup_call table.old sites partitions }
 {
     if table.len() != TABLE {
-        return answers::refused(23);
+        return Answer::from(Reason::WrongLength);
     }
     if !(lawful::number_lawful(sites) & lawful::number_lawful(partitions)) {
-        return answers::refused(11);
+        return Answer::from(Reason::UnlawfulField);
     }
     table.fill(0);
     codec::store_le(table, 0, 1, sites as u64);
@@ -38,13 +38,13 @@ pub fn step(table: &mut [u8], event: &[u8]) -> Answer
     ensures { gives result table.new ≡ step_call table.old event.now }
 {
     if table.len() != TABLE {
-        return answers::refused(23);
+        return Answer::from(Reason::WrongLength);
     }
     if event.len() != 32 {
-        return answers::refused(23);
+        return Answer::from(Reason::WrongLength);
     }
     if !lawful::well_formed(table) {
-        return answers::refused(24);
+        return Answer::from(Reason::IllFormed);
     }
     steps::step(table, event)
 }
@@ -62,11 +62,11 @@ pub fn run(table: &mut [u8], events: &[u8], answers: &mut [u8]) -> usize
 {
     let n = pieces_for(events.len(), answers.len());
     if table.len() != TABLE {
-        runs::refuse_all(events, answers, n, 23);
+        runs::refuse_all(events, answers, n, Reason::WrongLength);
         return n;
     }
     if !lawful::well_formed(table) {
-        runs::refuse_all(events, answers, n, 24);
+        runs::refuse_all(events, answers, n, Reason::IllFormed);
         return n;
     }
     runs::run(table, events, answers, n);

@@ -10,13 +10,13 @@ use protocol::Values;
 pub fn level_archive_setup(table: &mut [u8], sites: u32, partitions: u32) -> Values
     ensures { Returned result table.new (setup_call table.old sites partitions) }
 {
-    protocol::values_of(crate::setup(table, sites, partitions))
+    Values::from(crate::setup(table, sites, partitions))
 }
 
 pub fn level_archive_step(table: &mut [u8], event: &[u8]) -> Values
     ensures { Returned result table.new (step_call table.old event.now) }
 {
-    protocol::values_of(crate::step(table, event))
+    Values::from(crate::step(table, event))
 }
 
 pub fn level_archive_run(table: &mut [u8], events: &[u8], answers: &mut [u8]) -> usize

@@ -1,17 +1,18 @@
-// R30: what an event's 32 bytes say, and refusals 10 and 11. In order: the fields as values, the code, all the fields. Which code uses which
-// field is in flags, the range of each field in bounds. It reads the event alone.
+// R30: what an event's 32 bytes say, and refusals 10 and 11. In order: the fields as values, the event that they say by their code, all the fields' tests, and an
+// event that is read and tested. Which code uses which field is in flags, the range of each field in bounds. It reads the event alone.
 
 #![tactic(auto)]
 
-ghost use Rattle.std.specs.Prelude.{◌≡◌, true, ◌&&◌, ◌<◌, ◌-◌, length};
+ghost use Rattle.std.specs.Prelude.{◌≡◌, true, ◌&&◌, length, IfOk, IfErr};
 ghost use Rattle.codec.specs.Below.{all_below};
 ghost use Rattle.protocol.specs.Needs.{ranges};
 ghost use Rattle.protocol.specs.Meaning.{setting_of};
 ghost use Rattle.event.specs.Fields.{unused_zero};
 ghost use Rattle.event.specs.Event.{code_lawful, event_of, met};
-ghost use Rattle.event.specs.Meaning.{fields_in};
+ghost use Rattle.event.specs.Meaning.{fields_in, as_event, Says, IsRefusal};
 ghost use Rattle.event.specs.Ranges.{field_lawful};
 
+use protocol::Reason;
 use protocol::limits::Setting;
 
 mod bounds;
@@ -52,13 +53,109 @@ pub fn load_fields(e: &[u8]) -> Fields
     }
 }
 
+// R31: what an event asks. A page has the first `count` of its eight keys.
+#[derive(Clone, Copy)]
+pub enum Event {
+    Open {
+        session: u8,
+        site: u8,
+    },
+    Close {
+        session: u8,
+    },
+    Clock {
+        site: u8,
+        partition: u8,
+        time: u64,
+    },
+    Get {
+        session: u8,
+        key: u8,
+    },
+    Put {
+        session: u8,
+        key: u8,
+        quality: u8,
+        level: i32,
+    },
+    Begin {
+        session: u8,
+        partition: u8,
+        count: u8,
+        keys: [u8; 8],
+    },
+    Read {
+        session: u8,
+        key: u8,
+    },
+    End {
+        session: u8,
+    },
+    Beat {
+        site: u8,
+        partition: u8,
+    },
+    Deliver {
+        from: u8,
+        site: u8,
+        partition: u8,
+    },
+}
+
 // A code that is not 1 to 10 is refused with 10.
-pub fn code_lawful(e: &[u8]) -> bool
-    requires { length e.now ≡ 32 }
-    ensures { result ≡ code_lawful e.now }
-{
-    let code = codec::load_u8(e, 0);
-    (0 < code) & (code < 11)
+impl TryFrom<Fields> for Event {
+    type Error = Reason;
+
+    ghost try_from_gives = { Says };
+
+    fn try_from(x: Fields) -> Result<Event, Reason> {
+        Ok(match x.code {
+            1 => Event::Open {
+                session: x.session,
+                site: x.site,
+            },
+            2 => Event::Close { session: x.session },
+            3 => Event::Clock {
+                site: x.site,
+                partition: x.partition,
+                time: x.time,
+            },
+            4 => Event::Get {
+                session: x.session,
+                key: x.key,
+            },
+            5 => Event::Put {
+                session: x.session,
+                key: x.key,
+                quality: x.quality,
+                level: x.level,
+            },
+            6 => {
+                let keys = x.keys;
+                Event::Begin {
+                    session: x.session,
+                    partition: x.partition,
+                    count: x.count,
+                    keys,
+                }
+            }
+            7 => Event::Read {
+                session: x.session,
+                key: x.key,
+            },
+            8 => Event::End { session: x.session },
+            9 => Event::Beat {
+                site: x.site,
+                partition: x.partition,
+            },
+            10 => Event::Deliver {
+                from: x.from,
+                site: x.site,
+                partition: x.partition,
+            },
+            _ => return Err(Reason::UnknownCode),
+        })
+    }
 }
 
 // Each of the ten fields is zero unless it is used, and in its range if it is.
@@ -82,4 +179,17 @@ pub fn fields_lawful(e: &[u8], setting: Setting) -> bool
     let within = bounds::in_range(x, setting);
     each_lawful(used, flags::zero(e), within)
         & (flags::rest_zero(e) & (codec::load_u32(e, 28) == 0))
+}
+
+// An event as its bytes say it, in an archive with this setting.
+pub fn read(e: &[u8], setting: Setting) -> Result<Event, Reason>
+    requires { length e.now ≡ 32 }
+    ensures ok { IfOk result (λ v. (as_event v ≡ event_of e.now) × (code_lawful e.now ≡ true) × ((unused_zero e.now && met (ranges (setting_of setting) (event_of e.now))) ≡ true)) }
+    ensures err { IfErr result (λ w. IsRefusal (code_lawful e.now) (unused_zero e.now && met (ranges (setting_of setting) (event_of e.now))) w) }
+{
+    let event = Event::try_from(load_fields(e))?;
+    if !fields_lawful(e, setting) {
+        return Err(Reason::UnlawfulField);
+    }
+    Ok(event)
 }

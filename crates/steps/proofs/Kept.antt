@@ -3,7 +3,7 @@ use Prim.Native.Nat.{ℕ, ◌+◌, ◌*◌}
 use native.Mathlib.Numerals.{add-one}
 use mathlib.Core.Path.{◌≡◌, refl, sym, ap, subst, ◌∙◌}
 use mathlib.Core.Logic.{◌≢◌}
-use mathlib.Core.Bool.{cond}
+use mathlib.Core.Bool.{Bool, true, false, cond}
 use mathlib.Core.List.{List}
 use lib.Dec.{eqb}
 use lib.ListN.{length}
@@ -11,7 +11,9 @@ use borrow.Author.Tests.{eq-eqb, ne_eqb}
 use Rattle.codec.proofs.Tests.{cond_elim}
 use Rattle.protocol.specs.declared.Answer.{Answer}
 use Rattle.protocol.specs.declared.Answer.TheVariants.{Refused}
+use Rattle.protocol.specs.declared.reasons.Reason.{Reason}
 use Rattle.protocol.specs.Event.{plain}
+use Rattle.protocol.specs.Reason.{refusal_for}
 use Rattle.event.specs.Event.{code_lawful, event_of}
 use Rattle.event.specs.Fields.{unused_zero}
 use Rattle.lawful.proofs.Steps.{Sound, step_sound}
@@ -61,7 +63,12 @@ answered_sound n t es b i u w r S = subst (Sound n) (sym (ap (λ x. x.table) r))
 
 -- ---- a table that is refused
 
-pub away_by : (n i : ℕ) (es b e w : List ℕ) (a : Answer) → e ≡ piece_of es i → a ≡ Refused (plain (cond (eqb (length e) 32) n 23))
-    → w ≡ put_answer b (16 * i) a → (t : List ℕ) → ran t w ≡ piece_answered (piece_refused n) i t es b
+pub away_by : (w v : Reason) (i : ℕ) (es b e z : List ℕ) (a : Answer) → e ≡ piece_of es i → v ≡ cond (eqb (length e) 32) w Reason.WrongLength → a ≡ Refused (refusal_for v)
+    → z ≡ put_answer b (16 * i) a → (t : List ℕ) → ran t z ≡ piece_answered (piece_refused w) i t es b
 unfolding piece_answered piece_refused
-away_by n i es b e w a q r z t = ap (ran t) (z ∙ ap (put_answer b (16 * i)) (r ∙ ap (λ x. Refused (plain (cond (eqb (length x) 32) n 23))) q))
+away_by w v i es b e z a q m r put t =
+    ap (ran t) (put ∙ ap (put_answer b (16 * i)) (r ∙ ap Refused (ap refusal_for m ∙ cond_of refusal_for (eqb (length e) 32) w Reason.WrongLength) ∙ ap (λ (x : List ℕ). Refused (cond (eqb (length x) 32) (refusal_for w) (plain 23))) q))
+  where
+    cond_of : {A B : Type 0} (f : A → B) (c : Bool) (x y : A) → f (cond c x y) ≡ cond c (f x) (f y)
+    cond_of f true x y = refl
+    cond_of f false x y = refl

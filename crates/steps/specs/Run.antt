@@ -4,9 +4,12 @@ use Rattle.codec.specs.Level.{bits_of}
 use Rattle.codec.specs.Fields.{Field, field, put_all}
 use Rattle.protocol.specs.declared.Answer.{Answer}
 use Rattle.protocol.specs.declared.Values.{Values}
-use Rattle.protocol.specs.Event.{values_of}
+use Rattle.protocol.specs.declared.Answer.TheVariants.{Refused}
+use Rattle.protocol.specs.declared.reasons.Reason.{Reason}
+use Rattle.protocol.specs.Event.{plain, values_of}
+use Rattle.protocol.specs.Reason.{refusal_for}
 use Rattle.reader.specs.Pieces.{piece_of}
-use Rattle.steps.specs.Step.{Called, refused, need, step_on}
+use Rattle.steps.specs.Step.{Called, gives, need, step_on}
 
 -- an answer's 16 bytes: 0 number, 1 source, 2 quality, 3 zero, 4–7 level, 8–15 stamp
 abbrev pub answer_fields : Values → List Field
@@ -37,6 +40,6 @@ run_by call (suc n) t es b = let r = run_by call n t es b in piece_answered call
 unfoldable pub piece_call : (table event : List ℕ) → Called
 piece_call t e = need (eqb (length e) 32) 23 t (step_on t e)
 
--- a piece on a table that is refused with the number
-unfoldable pub piece_refused : ℕ → (table event : List ℕ) → Called
-piece_refused n t e = refused (cond (eqb (length e) 32) n 23) t
+-- a piece on a table that is refused for the reason
+unfoldable pub piece_refused : Reason → (table event : List ℕ) → Called
+piece_refused w t e = gives (Refused (cond (eqb (length e) 32) (refusal_for w) (plain 23))) t

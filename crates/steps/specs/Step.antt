@@ -1,11 +1,15 @@
 -- A call's answer and the table's bytes afterwards, and a step on a well-formed table: refusal 10, refusal 11 for an unused field that is not zero, then the
 -- protocol's answer.
 use Rattle.std.specs.Prelude.{ℕ, Bool, cond, ◌&&◌, List}
+use Rattle.std.specs.declared.result.Result.{Result}
+use Rattle.std.specs.declared.result.Result.TheVariants.{Ok, Err}
 use Rattle.protocol.specs.declared.Answer.{Answer}
 use Rattle.protocol.specs.declared.Answer.TheVariants.{Refused}
 use Rattle.protocol.specs.Event.{plain}
 use Rattle.protocol.specs.Needs.{ranges}
 use Rattle.protocol.specs.Step.{step}
+use Rattle.protocol.specs.declared.reasons.Reason.{Reason}
+use Rattle.protocol.specs.Reason.{refusal_for}
 use Rattle.event.specs.Event.{code_lawful, event_of, met}
 use Rattle.event.specs.Fields.{unused_zero}
 use Rattle.table.specs.Decode.{setting_in, decode}
@@ -35,3 +39,8 @@ unfoldable pub step_on : (table event : List ℕ) → Called
 step_on t e =
     let o = step (decode t) (event_of e) in
     need (code_lawful e) 10 t (need (unused_zero e) 11 t (gives o.says (put_changes o.changes t)))
+
+-- what is answered where a reason may turn the call away
+abbrev pub told : Result Answer Reason → Answer
+told (Ok a) = a
+told (Err w) = Refused (refusal_for w)

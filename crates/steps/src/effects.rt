@@ -1,24 +1,21 @@
-// A decision carried out: the changes of its effect, on the table's bytes. It writes what the decision holds, and reads nothing to decide.
+// A decision carried out: the changes of its effect, on the table's bytes. It writes what the effect holds, and reads nothing to decide.
 ghost use Rattle.std.specs.Prelude.{◌≡◌};
 ghost use Rattle.table.specs.Parts.{Long};
 ghost use Rattle.table.specs.Put.{put_changes};
 ghost use Rattle.table.specs.Fits.{FitsAll};
 ghost use Rattle.outcome.specs.Decided.{changes_of};
 
-use outcome::{Decided, Effect};
+use outcome::Effect;
 use record::{Letter, Message};
 use vector::Vector;
 
-pub fn carry_out(t: &mut [u8], d: Decided)
-    requires { Long t.old × FitsAll (changes_of d.effect d.carried d.session) t.old }
-    ensures { t.new ≡ put_changes (changes_of d.effect d.carried d.session) t.old }
+pub fn carry_out(t: &mut [u8], effect: Effect)
+    requires { Long t.old × FitsAll (changes_of effect) t.old }
+    ensures { t.new ≡ put_changes (changes_of effect) t.old }
 {
-    let effect = d.effect;
-    let carried = d.carried;
-    let kept = d.session;
     match effect {
         Effect::Nothing => {}
-        Effect::Keep { session } => {
+        Effect::Keep { session, kept } => {
             table::set_session(t, session as usize, kept);
         }
         Effect::Clock {
@@ -42,11 +39,11 @@ pub fn carry_out(t: &mut [u8], d: Decided)
         }
         Effect::Put {
             session,
+            kept,
             site,
             partition,
-            message,
+            letter,
         } => {
-            let letter = Letter { message, carried };
             table::publish(t, site as usize, partition as usize, letter);
             table::set_session(t, session as usize, kept);
         }
@@ -54,9 +51,8 @@ pub fn carry_out(t: &mut [u8], d: Decided)
             from,
             site,
             partition,
-            message,
+            letter,
         } => {
-            let letter = Letter { message, carried };
             table::receive(t, from as usize, site as usize, partition as usize, letter);
         }
     }

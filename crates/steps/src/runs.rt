@@ -1,13 +1,13 @@
 // Many events on a table known to be well formed: it stays so, so it is not checked again. The reader gives each event in turn. In order: one piece, and
 // all; the same of a table that is refused.
-ghost use Rattle.std.specs.Prelude.{◌≡◌, ℕ, ◌+◌, ◌*◌, ◌≤◌, cond, List, T, eqb, length};
+ghost use Rattle.std.specs.Prelude.{◌≡◌, ℕ, ◌+◌, ◌*◌, ◌≤◌, List, T, length};
 ghost use Rattle.table.specs.Parts.{Whole};
 ghost use Rattle.lawful.specs.WellFormed.{well_formed};
 ghost use Rattle.steps.specs.Step.{gives};
 ghost use Rattle.steps.specs.Run.{ran, piece_answered, run_by, piece_call, piece_refused};
 
 use crate::answers;
-use protocol::Answer;
+use protocol::{Answer, Reason};
 
 // A piece of the event bytes: all but the last have 32 bytes.
 fn piece(t: &mut [u8], e: &[u8]) -> Answer
@@ -17,7 +17,7 @@ fn piece(t: &mut [u8], e: &[u8]) -> Answer
     if e.len() == 32 {
         crate::step(t, e)
     } else {
-        answers::refused(23)
+        Answer::from(Reason::WrongLength)
     }
 }
 
@@ -40,29 +40,26 @@ pub fn run(t: &mut [u8], es: &[u8], b: &mut [u8], n: usize)
     }
 }
 
-// The number for a piece of a table that is refused with it.
-fn number_for(size: usize, number: u8) -> u8
-    ensures { result ≡ cond (eqb size 32) number 23 }
-{
-    if size == 32 { number } else { 23 }
-}
-
-// Piece i of a table that is refused with the number.
-fn refuse_piece(es: &[u8], b: &mut [u8], i: usize, number: u8)
+// Piece i of a table that is refused for the reason. A piece of another length than 32 is refused for that.
+fn refuse_piece(es: &[u8], b: &mut [u8], i: usize, reason: Reason)
     requires { 16 * i + 16 ≤ length b.old }
-    ensures { (t : List ℕ) → ran t b.new ≡ piece_answered (piece_refused number) i t es.now b.old }
+    ensures { (t : List ℕ) → ran t b.new ≡ piece_answered (piece_refused reason) i t es.now b.old }
 {
     let e = reader::event_of(es, i);
-    let a = answers::refused(number_for(e.len(), number));
-    answers::store_answer(b, 16 * i, a);
+    let met = if e.len() == 32 {
+        reason
+    } else {
+        Reason::WrongLength
+    };
+    answers::store_answer(b, 16 * i, Answer::from(met));
 }
 
-// The first n pieces of a table that is refused with the number.
-pub fn refuse_all(es: &[u8], b: &mut [u8], n: usize, number: u8)
+// The first n pieces of a table that is refused for the reason.
+pub fn refuse_all(es: &[u8], b: &mut [u8], n: usize, reason: Reason)
     requires { 16 * n ≤ length b.old }
-    ensures { (t : List ℕ) → ran t b.new ≡ run_by (piece_refused number) n t es.now b.old }
+    ensures { (t : List ℕ) → ran t b.new ≡ run_by (piece_refused reason) n t es.now b.old }
 {
     for i in 0..n {
-        refuse_piece(es, b, i, number);
+        refuse_piece(es, b, i, reason);
     }
 }

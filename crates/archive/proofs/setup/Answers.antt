@@ -19,12 +19,12 @@ numbers_lawful m n p q = rw (p, q) (setting_tests m n)
 pub returns-then-table-ne-TABLE : goal.returns-then-table-ne-TABLE
 returns-then-table-ne-TABLE c =
     let a = c.args in
-    ap (λ r. gives r a.table.now) c.refused.ensures ∙ sym (setup_23 a.table.now a.sites a.partitions c.if-table-ne-TABLE.true)
+    ap (λ r. gives r a.table.now) c.from.ensures ∙ sym (setup_23 a.table.now a.sites a.partitions c.if-table-ne-TABLE.true)
 
 pub returns-then-not-number_lawful : goal.returns-then-not-number_lawful
 returns-then-not-number_lawful c =
     let a = c.args in
-    ap (λ r. gives r a.table.now) c.refused-then-not-number_lawful.ensures ∙ sym (setup_11 a.table.now a.sites a.partitions (search rules) (fails (numbers_lawful _ _ c.number_lawful.ensures c.number_lawful-2.ensures) c.if-not-number_lawful.true))
+    ap (λ r. gives r a.table.now) c.from-then-not-number_lawful.ensures ∙ sym (setup_11 a.table.now a.sites a.partitions (search rules) (fails (numbers_lawful _ _ c.number_lawful.ensures c.number_lawful-2.ensures) c.if-not-number_lawful.true))
 
 pub returns : goal.returns
 returns c =

@@ -9,17 +9,17 @@ use Rattle.archive.proofs.step.Goals as goal
 pub returns-then-table-ne-TABLE : goal.returns-then-table-ne-TABLE
 returns-then-table-ne-TABLE c =
     let a = c.args in
-    ap (λ r. gives r a.table.now) c.refused.ensures ∙ sym (step_no_table a.table.now a.event.now c.if-table-ne-TABLE.true)
+    ap (λ r. gives r a.table.now) c.from.ensures ∙ sym (step_no_table a.table.now a.event.now c.if-table-ne-TABLE.true)
 
 pub returns-then-event-ne32 : goal.returns-then-event-ne32
 returns-then-event-ne32 c =
     let a = c.args in
-    ap (λ r. gives r a.table.now) c.refused-then-event-ne32.ensures ∙ sym (step_no_event a.table.now a.event.now (search rules) c.if-event-ne32.true)
+    ap (λ r. gives r a.table.now) c.from-then-event-ne32.ensures ∙ sym (step_no_event a.table.now a.event.now (search rules) c.if-event-ne32.true)
 
 pub returns-then-not-well_formed : goal.returns-then-not-well_formed
 returns-then-not-well_formed c =
     let a = c.args in
-    ap (λ r. gives r a.table.now) c.refused-then-not-well_formed.ensures
+    ap (λ r. gives r a.table.now) c.from-then-not-well_formed.ensures
     ∙ sym (step_ill a.table.now a.event.now (search rules) (search rules) (sym c.well_formed-2.ensures ∙ c.if-not-well_formed.true))
 
 pub step-requires : goal.step-requires

@@ -7,4 +7,4 @@ use Rattle.archive.proofs.port.level_archive_step.Goals as goal
 pub returns : goal.returns
 returns c =
     let s = c.step in
-    (c.values_of.ensures ∙ ap (λ (k : Called). values_of k.answer) s.ensures, ap (λ (k : Called). k.table) s.ensures)
+    (c.from.ensures ∙ ap (λ (k : Called). values_of k.answer) s.ensures, ap (λ (k : Called). k.table) s.ensures)

@@ -11,6 +11,6 @@ use Rattle.steps.proofs.answers.store_answer.Goals as goal
 pub returns : goal.returns
 unfolding put_answer
 returns c =
-    let fits : SFits w32 c.values_of-v.result.level = search rules in
+    let fits : SFits w32 c.from-v.result.level = search rules in
     c.store_u64.ensures
-    ∙ rw (add-zero, c.store_level.ensures, to_z-of_z fits, c.store_u8-4.ensures, c.store_u8-3.ensures, c.store_u8-2.ensures, c.store_u8.ensures, c.values_of-v.ensures)
+    ∙ rw (add-zero, c.store_level.ensures, to_z-of_z fits, c.store_u8-4.ensures, c.store_u8-3.ensures, c.store_u8-2.ensures, c.store_u8.ensures, c.from-v.ensures)

@@ -12,4 +12,4 @@ returns-then-e-eq32 c =
 pub returns-else-e-eq32 : goal.returns-else-e-eq32
 returns-else-e-eq32 c =
     let a = c.args in
-    ap (λ r. gives r a.t.now) c.refused.ensures ∙ sym (piece_short a.t.now a.e.now c.if-e-eq32.false)
+    ap (λ r. gives r a.t.now) c.from.ensures ∙ sym (piece_short a.t.now a.e.now c.if-e-eq32.false)

@@ -5,4 +5,4 @@ use Rattle.steps.specs.Run.{ran, run_by, piece_refused}
 use Rattle.steps.proofs.runs.refuse_all.Given as goal
 
 abbrev pub invariant-loop-i : goal.invariant-loop-i
-invariant-loop-i l = (t : List ℕ) → ran t l.b ≡ run_by (piece_refused l.number) l.i t l.es l.initial.b
+invariant-loop-i l = (t : List ℕ) → ran t l.b ≡ run_by (piece_refused l.reason) l.i t l.es l.initial.b

@@ -12,10 +12,10 @@ loop-i-init c = all_below_none _
 pub returns-then-not-i-m : goal.returns-then-not-i-m
 unfolding first_short_but entry
 returns-then-not-i-m c = (
-    sym c.at_most_but.ensures ∙ c.if-at_most_but.false,
-    sym (first_not_is 4 _ c.loop-i.i (omega arith) c.loop-i.invariant (c.if-not-i-m.true)),
-    omega arith,
-  )
+  sym c.at_most_but.ensures ∙ c.if-at_most_but.false,
+  sym (first_not_is 4 _ c.loop-i.i (omega arith) c.loop-i.invariant (c.if-not-i-m.true)),
+  omega arith,
+)
 
 pub loop-i-preserved : goal.loop-i-preserved
 unfolding entry

@@ -1,0 +1,33 @@
+-- `event::read` meets its contract: the code says which event it is, or is none, and then the fields are tested.
+use Prim.Native.Nat.{ℕ}
+use mathlib.Core.Path.{◌≡◌, sym, ap, ◌∙◌}
+use mathlib.Core.List.{List}
+use Rattle.std.proofs.lemmas.Result.{IfErr-at_err, err_from_is_err_and}
+use Rattle.event.specs.declared.Fields.{Fields}
+use Rattle.event.specs.Event.{code_lawful}
+use Rattle.event.specs.Meaning.{event_from, known, fields_in, IsRefusal}
+use Rattle.event.proofs.Meaning.{event_from-fields_in}
+use Rattle.event.proofs.read.Goals as goal
+
+code_known : (e : List ℕ) (x : Fields) → x ≡ fields_in e → code_lawful e ≡ known x
+unfolding code_lawful fields_in
+code_known e x q = rw q
+
+pub returns-in_err-event-clause-err : goal.returns-in_err-event-clause-err
+returns-in_err-event-clause-err c =
+    let p = err_from_is_err_and c.from_residual.result c.from_residual.ensures.1 in
+    let met = c.in_err-event.ensures in
+    rw (p.1, p.2, met.1) (IsRefusal.unknown (code_known c.args.e.now _ c.load_fields.ensures ∙ met.0))
+
+pub fields_lawful-requires : goal.fields_lawful-requires
+fields_lawful-requires c = (c.requires, code_known c.args.e.now _ c.load_fields.ensures ∙ c.in_ok-event.ensures.0)
+
+pub returns-then-not-fields_lawful-clause-err : goal.returns-then-not-fields_lawful-clause-err
+returns-then-not-fields_lawful-clause-err c =
+    IsRefusal.unlawful (code_known c.args.e.now _ c.load_fields.ensures ∙ c.in_ok-event.ensures.0) (sym c.fields_lawful.ensures ∙ c.if-not-fields_lawful.true)
+
+pub returns-clause-ok : goal.returns-clause-ok
+returns-clause-ok c =
+    let code = code_known c.args.e.now _ c.load_fields.ensures ∙ c.in_ok-event.ensures.0 in
+    let fields = sym c.fields_lawful.ensures ∙ c.if-not-fields_lawful.false in
+    (c.in_ok-event.ensures.1 ∙ ap event_from c.load_fields.ensures ∙ event_from-fields_in _ c.args.e.now (code, fields), code, fields)
