@@ -8,6 +8,8 @@ ghost use Rattle.codec.specs.Le.{load, put};
 ghost use Rattle.codec.specs.Tabulate.{tabulate};
 ghost use Rattle.codec.specs.Level.{level_from, bits_of};
 
+use std::array;
+
 // The number in the n bytes at `at`: the highest byte first, so that what is read is scaled once a turn.
 pub fn load_le(t: &[u8], at: usize, n: usize) -> u64
     requires { (at + n ≤ length t.now) × (n ≤ 8) }
@@ -51,9 +53,7 @@ pub fn load_eight(t: &[u8], at: usize) -> [u8; 8]
     requires { at + 8 ≤ length t.now }
     ensures { result ≡ tabulate 8 (λ i. load 1 t.now (at + i)) }
 {
-    let mut bytes = [0u8; 8];
-    bytes.copy_from_slice(&t[at..at + 8]);
-    bytes
+    array::from_fn(|i| load_u8(t, at + i))
 }
 
 pub fn load_u32(t: &[u8], at: usize) -> u32

@@ -1,13 +1,11 @@
--- `codec::load_eight` meets its contract: byte k of the eight is the byte at at + k, which is its number.
-use mathlib.Core.Path.{sym, ◌∙◌}
-use native.Mathlib.Omega.{arith}
-use lib.Seq.{get_or-take, get_or-drop}
-use Rattle.codec.proofs.Le.{load_byte}
+-- `codec::load_eight` meets its contract: each of the eight bytes is loaded.
+use borrow.Author.Rules.{rules}
+use Rattle.codec.proofs.Below.{none, first}
 use Rattle.codec.proofs.Tabulate.{tab_is}
 use Rattle.codec.proofs.load_eight.Goals as goal
 
 pub returns : goal.returns
 returns c =
-    let t = c.args.t.now in
-    let copied = c.copy_from_slice.ensures in
-    tab_is 8 _ _ 0 copied.len (λ k b. rw copied.after (get_or-take _ _ k 0 (omega arith) ∙ get_or-drop c.args.at t k 0 ∙ sym (load_byte t _)))
+    tab_is 8 _ c.from_fn.result 0 c.from_fn.ensures.items.long
+    (first _ 7 (search rules) (first _ 6 (search rules) (first _ 5 (search rules) (first _ 4 (search rules)
+    (first _ 3 (search rules) (first _ 2 (search rules) (first _ 1 (search rules) (first _ 0 (search rules) (none _)))))))))

@@ -1,8 +1,7 @@
 -- `vector::load_vector` meets its contract: each of the four entries is loaded.
 use borrow.Author.Rules.{rules}
-use Rattle.codec.proofs.Below.{none, first}
 use Rattle.vector.specs.Entries.{entry, load_vec}
-use Rattle.vector.proofs.Entries.{entry_is, load_vec-beyond}
+use Rattle.vector.proofs.Entries.{entry_is, each_site, load_vec-beyond}
 use Rattle.vector.proofs.load_vector.Goals as goal
 
 pub returns : goal.returns
@@ -10,4 +9,4 @@ unfolding entry load_vec
 returns c =
     let a = c.args in
     entry_is _ c.from_fn.result c.from_fn.ensures.items.long (load_vec-beyond a.t.now a.at)
-    (first _ 3 (search rules) (first _ 2 (search rules) (first _ 1 (search rules) (first _ 0 (search rules) (none _)))))
+    (each_site _ (search rules) (search rules) (search rules) (search rules))

@@ -1,9 +1,8 @@
 -- `vector::Vector::larger_of` meets its contract: each of the four entries is the larger one.
 use borrow.Author.Rules.{rules}
-use Rattle.codec.proofs.Below.{none, first}
 use Rattle.vector.specs.Vec.{larger}
 use Rattle.vector.specs.Entries.{entry}
-use Rattle.vector.proofs.Entries.{entry_is, larger_narrow}
+use Rattle.vector.proofs.Entries.{entry_is, each_site, larger_narrow}
 use Rattle.vector.proofs.Vector.larger_of.Goals as goal
 
 pub returns : goal.returns
@@ -11,4 +10,4 @@ unfolding entry larger
 returns c =
     let a = c.args in
     entry_is _ c.from_fn.result c.from_fn.ensures.items.long (larger_narrow a.self.entries a.o.entries (search rules) (search rules))
-    (first _ 3 (search rules) (first _ 2 (search rules) (first _ 1 (search rules) (first _ 0 (search rules) (none _)))))
+    (each_site _ (search rules) (search rules) (search rules) (search rules))

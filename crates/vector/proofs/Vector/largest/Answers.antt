@@ -1,20 +1,25 @@
--- `vector::Vector::largest` meets its contract: it is the largest of the entries so far.
-use mathlib.Core.Path.{◌≡◌, sym}
+-- `vector::Vector::largest` meets its contract: it is a fold over the four entries.
+use mathlib.Core.Path.{◌≡◌, refl, ◌∙◌}
+use mathlib.Core.List.{List, [], ◌∷◌}
 use native.Mathlib.Omega.{arith}
-use Rattle.vector.specs.Vec.{largest}
+use Prim.Native.Nat.{ℕ, max}
+use lib.ListN.{length}
+use Rattle.std.specs.Prelude.{fold}
+use borrow.Author.Rules.{rules}
+use Rattle.vector.specs.Vec.{width, largest, largest_of}
 use Rattle.vector.specs.Entries.{entry}
-use Rattle.vector.proofs.Entries.{largest_of_none, largest_of-step}
 use Rattle.vector.proofs.Vector.largest.Goals as goal
 
-pub loop-x-init : goal.loop-x-init
-loop-x-init c = sym (largest_of_none _)
-
-pub loop-x-preserved : goal.loop-x-preserved
-unfolding entry
-loop-x-preserved c = rw (c.later-largest.ensures, c.loop-x.invariant) (sym (largest_of-step c.loop-x.x-index _))
+folded : (e : List ℕ) → length e ≡ width → fold (λ a b. max a b) 0 e ≡ largest (entry e)
+unfolding largest largest_of entry
+folded (a ∷ b ∷ c ∷ d ∷ []) l = refl
+folded [] l = absurd (omega arith)
+folded (a ∷ []) l = absurd (omega arith)
+folded (a ∷ b ∷ []) l = absurd (omega arith)
+folded (a ∷ b ∷ c ∷ []) l = absurd (omega arith)
+folded (a ∷ b ∷ c ∷ d ∷ x ∷ e) l = absurd (omega arith)
 
 pub returns : goal.returns
-unfolding largest
 returns c =
-    let e : c.loop-x.x-index ≡ 4 = omega arith in
-    rw e at c.loop-x.invariant
+    let over : c.fold.result ≡ fold (λ a b. max a b) 0 c.args.self.entries = search rules in
+    over ∙ folded c.args.self.entries (search rules)
