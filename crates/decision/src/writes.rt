@@ -46,10 +46,8 @@ fn has_room(t: &[u8], m: u8, p: u8) -> bool
 {
     let n = codec::load_u8(t, 0) as usize - 1;
     let mut all = true;
-    let mut d = 0;
-    while d < n {
-        all = all & (channels::waiting(places::channel(t, m, p, d)) < 8);
-        d += 1;
+    for d in 0..n {
+        all &= channels::waiting(places::channel(t, m, p, d)) < 8;
     }
     all
 }
