@@ -15,13 +15,10 @@ fn messages_formed(b: &[u8], setting: Setting, i: u8, p: u8, front: u8, wait: u8
     requires { (length b.now ≡ 464) × (0 < setting.partitions) }
     ensures { result ≡ all_below wait (λ k. message_formed (setting_of setting) i p b.now (ring_at front k)) }
 {
-    for k in 0..wait {
+    (0..wait).all(|k| {
         let at = 16 + 56 * ((front as usize + k as usize) % 8);
-        if !formed::message_formed(b, at, setting, i, p) {
-            return false;
-        }
-    }
-    true
+        formed::message_formed(b, at, setting, i, p)
+    })
 }
 
 // The channel from site i at partition p to the place d among the other sites.

@@ -11,15 +11,10 @@ fn holds_key(b: &[u8], at: usize, n: usize, k: u8) -> bool
     requires { at + n ≤ length b.now }
     ensures { result ≡ has (tabulate n (λ i. load 1 b.now (at + i))) k }
 {
-    for i in 0..n {
-        if codec::load_u8(b, at + i) == k {
-            return true;
-        }
-    }
-    false
+    (0..n).any(|i| codec::load_u8(b, at + i) == k)
 }
 
-// The n keys from `at` are 0 to 63 and differ: none is one of those before it.
+// The n keys from `at` are 0 to 63 and differ: none is one of those before it. A loop: with `all` it is not unrolled, and slower.
 fn keys_formed(b: &[u8], at: usize, n: usize) -> bool
     requires { at + n ≤ length b.now }
     ensures { result ≡ (keys_lawful (tabulate n (λ i. load 1 b.now (at + i))) && distinct (tabulate n (λ i. load 1 b.now (at + i)))) }

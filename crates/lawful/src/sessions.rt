@@ -18,12 +18,7 @@ fn flags_formed(b: &[u8], at: usize, n: usize) -> bool
     requires { at + n ≤ length b.now }
     ensures { result ≡ flags_at b.now at n }
 {
-    for i in 0..n {
-        if FLAGS <= codec::load_u8(b, at + i) {
-            return false;
-        }
-    }
-    true
+    (0..n).all(|i| codec::load_u8(b, at + i) < FLAGS)
 }
 
 // The keys of a page that is not open are not looked at.

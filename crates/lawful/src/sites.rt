@@ -14,15 +14,16 @@ fn channels_formed(site: &[u8], setting: Setting, m: u8, p: u8) -> bool
     requires { (length site.now ≡ 13056) × (0 < setting.partitions) × (p < 4) }
     ensures { result ≡ all_below 3 (λ d. channel_formed (setting_of setting) m p d (channel_of site.now p d)) }
 {
-    for d in 0..3 {
-        if !channels::channel_formed(places::channel_of(site, p, d as usize), setting, m, p, d) {
-            return false;
-        }
-    }
-    true
+    (0..3).all(|d| channels::channel_formed(
+        places::channel_of(site, p, d as usize),
+        setting,
+        m,
+        p,
+        d,
+    ))
 }
 
-// Site m, and the kept places of its nodes.
+// Site m, and the kept places of its nodes. A loop: with `all`, whose closure joins two tests, the proof did not close.
 pub fn site_formed(t: &[u8], setting: Setting, m: u8) -> bool
     requires { Whole t.now × (0 < setting.partitions) × (m < 4) }
     ensures { result ≡ (site_formed (setting_of setting) m (site_of t.now m) && all_below 4 (λ p. kept_formed (setting_of setting) (node_of (site_of t.now m) p) (kept_of t.now m p))) }

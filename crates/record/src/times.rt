@@ -47,12 +47,7 @@ fn entry_lawful(x: u64, i: usize, setting: Setting) -> bool
 fn vector_lawful(v: Vector, setting: Setting) -> bool
     ensures { result ≡ vec_lawful (setting_of setting) (as_vec v) }
 {
-    for (i, x) in v.entries.iter().enumerate() {
-        if !entry_lawful(*x, i, setting) {
-            return false;
-        }
-    }
-    true
+    (0..Vector::WIDTH).all(|i| entry_lawful(v.entries[i], i, setting))
 }
 
 // The vector at `at`.
@@ -68,10 +63,5 @@ pub fn none_above(b: &[u8], at: usize, x: u64) -> bool
     requires { at + 32 ≤ length b.now }
     ensures { result ≡ all_below width (λ i. leb (load_vec b.now at i) x) }
 {
-    for i in 0..Vector::WIDTH {
-        if x < codec::load_u64(b, at + 8 * i) {
-            return false;
-        }
-    }
-    true
+    (0..Vector::WIDTH).all(|i| codec::load_u64(b, at + 8 * i) <= x)
 }

@@ -1,4 +1,4 @@
--- `lawful::nodes::records_formed` meets its contract: the records before the slot are lawful, and `best` has the newest of each key among them.
+-- `lawful::nodes::records_formed` meets its contract: the records below k are lawful, and `best` has the newest of each key among them.
 use mathlib.Core.Path.{◌≡◌, sym, ap, subst, ◌∙◌}
 use mathlib.Core.Bool.{Bool, true}
 use mathlib.Core.List.{List}
@@ -24,13 +24,13 @@ key_small : (d : Setting) (p : ℕ) (n : List ℕ) (at key : ℕ) {r : Bool} →
 unfolding record_at
 key_small d p n at key e lawful q = omega (arith, (record_read d p n at (subst T (sym (passes e lawful)) tt)).key)
 
-pub loop-slot-init : goal.loop-slot-init
-loop-slot-init c = (all_below_none _, search rules, bests_none _ (replicate 64 0) (λ k b. get_or-replicate 64 k 0 0 b))
+pub loop-k-init : goal.loop-k-init
+loop-k-init c = (all_below_none _, search rules, bests_none _ (replicate 64 0) (λ k b. get_or-replicate 64 k 0 0 b))
 
 pub returns-then-not-record_formed : goal.returns-then-not-record_formed
 returns-then-not-record_formed c =
     let no = fails c.record_formed.ensures c.if-not-record_formed.true in
-    no_and _ (all_below_fails c.args.held _ c.loop-slot.slot (omega arith) no)
+    no_and _ (all_below_fails c.args.held _ c.loop-k.k (omega arith) no)
 
 pub bounds-best-key : goal.bounds-best-key
 bounds-best-key c = key_small _ _ _ _ _ c.record_formed.ensures c.if-not-record_formed.false c.load_u8-key.ensures
@@ -38,29 +38,29 @@ bounds-best-key c = key_small _ _ _ _ _ c.record_formed.ensures c.if-not-record_
 pub overflow_cast-best : goal.overflow_cast-best
 overflow_cast-best c =
     let key = key_small _ _ _ _ _ c.record_formed.ensures c.if-not-record_formed.false c.load_u8-key.ensures in
-    omega (arith, bests_at_most c.args.n.now c.loop-slot.best c.loop-slot.slot c.loop-slot.invariant.2 c.load_u8-key.result key)
+    omega (arith, bests_at_most c.args.n.now c.loop-k.best c.loop-k.k c.loop-k.invariant.2 c.load_u8-key.result key)
 
 pub later-requires : goal.later-requires
 later-requires c =
     let key = key_small _ _ _ _ _ c.record_formed.ensures c.if-not-record_formed.false c.load_u8-key.ensures in
-    (search rules, omega arith, omega (arith, bests_at_most c.args.n.now c.loop-slot.best c.loop-slot.slot c.loop-slot.invariant.2 c.load_u8-key.result key))
+    (search rules, omega arith, omega (arith, bests_at_most c.args.n.now c.loop-k.best c.loop-k.k c.loop-k.invariant.2 c.load_u8-key.result key))
 
-pub bounds-best-key-in-loop-slot : goal.bounds-best-key-in-loop-slot
-bounds-best-key-in-loop-slot c = key_small _ _ _ _ _ c.record_formed.ensures c.if-not-record_formed.false c.load_u8-key.ensures
+pub bounds-best-key-in-loop-k : goal.bounds-best-key-in-loop-k
+bounds-best-key-in-loop-k c = key_small _ _ _ _ _ c.record_formed.ensures c.if-not-record_formed.false c.load_u8-key.ensures
 
-pub loop-slot-preserved : goal.loop-slot-preserved
+pub loop-k-preserved : goal.loop-k-preserved
 unfolding record_at
-loop-slot-preserved c =
+loop-k-preserved c =
     let key = key_small _ _ _ _ _ c.record_formed.ensures c.if-not-record_formed.false c.load_u8-key.ensures in (
-      all_below_more c.loop-slot.slot _ c.loop-slot.invariant.0 (passes c.record_formed.ensures c.if-not-record_formed.false),
-      simp length-set c.loop-slot.invariant.1,
-      bests_more c.args.n.now c.loop-slot.best c.loop-slot.slot c.load_u8-key.result c.later.result c.loop-slot.invariant.1 key (sym c.load_u8-key.ensures) c.loop-slot.invariant.2 c.later.ensures.0,
+      all_below_more c.loop-k.k _ c.loop-k.invariant.0 (passes c.record_formed.ensures c.if-not-record_formed.false),
+      simp length-set c.loop-k.invariant.1,
+      bests_more c.args.n.now c.loop-k.best c.loop-k.k c.load_u8-key.result c.later.result c.loop-k.invariant.1 key (sym c.load_u8-key.ensures) c.loop-k.invariant.2 c.later.ensures.0,
     )
 
 pub returns : goal.returns
 returns c =
     let a = c.args in
     let d = setting_of a.setting in
-    let e : c.loop-slot.slot ≡ a.held = omega arith in
-    let best = bests_all a.n.now c.loop-slot.best c.loop-slot.invariant.1 (rw (← c.requires.4, ← e) c.loop-slot.invariant.2) d in
-    rw (rw e at c.loop-slot.invariant.0) (c.same_places.ensures ∙ ap (λ (b : List ℕ). all_below 64 (λ k. eqb (load 1 a.s.now k) (load 1 b k))) best ∙ kept-bytes d a.n.now a.s.now)
+    let e : c.loop-k.k ≡ a.held = omega arith in
+    let best = bests_all a.n.now c.loop-k.best c.loop-k.invariant.1 (rw (← c.requires.4, ← e) c.loop-k.invariant.2) d in
+    rw (rw e at c.loop-k.invariant.0) (c.same_places.ensures ∙ ap (λ (b : List ℕ). all_below 64 (λ k. eqb (load 1 a.s.now k) (load 1 b k))) best ∙ kept-bytes d a.n.now a.s.now)

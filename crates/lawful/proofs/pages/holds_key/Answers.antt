@@ -1,26 +1,28 @@
--- `lawful::pages::holds_key` meets its contract: k is none of the first i keys.
-use mathlib.Core.Path.{◌≡◌, sym, ap, ◌∙◌}
-use mathlib.Core.Bool.{not}
+-- `lawful::pages::holds_key` meets its contract: k is compared with each key.
+use mathlib.Core.Path.{◌≡◌, refl, ap, ◌∙◌}
+use mathlib.Core.Bool.{Bool}
+use Prim.Native.Nat.{ℕ, zero, suc, ◌+◌, ◌<◌}
 use native.Mathlib.Omega.{arith}
-use borrow.Author.Tests.{not-true, not-false, eq-eqb, ne_eqb}
-use Rattle.codec.proofs.Below.{all_below_none, all_below_more, all_below_fails}
-use Rattle.lawful.proofs.KeyTests.{has_none}
+use borrow.Author.Rules.{rules}
+use lib.Dec.{eqb}
+use Rattle.std.specs.List.{list_any, range_with_len}
+use Rattle.std.proofs.lemmas.Iterator.{YieldsList-from_range}
+use Rattle.std.proofs.lemmas.Iterator.Search.{any_from_yields_List}
+use Rattle.codec.specs.Le.{load}
+use Rattle.codec.specs.Tabulate.{tabulate}
+use Rattle.codec.specs.Lists.{has}
 use Rattle.lawful.proofs.pages.holds_key.Goals as goal
 
-pub loop-i-init : goal.loop-i-init
-loop-i-init c = all_below_none _
-
-pub returns-then-load_u8-k : goal.returns-then-load_u8-k
-returns-then-load_u8-k c =
-    let same = sym c.load_u8.ensures ∙ c.if-load_u8-k.true in
-    sym (not-false _ (has_none _ _ _ ∙ all_below_fails _ _ c.loop-i.i (omega arith) (ap not (eq-eqb _ _ same))))
-
-pub loop-i-preserved : goal.loop-i-preserved
-loop-i-preserved c =
-    let other = ne_eqb _ _ (λ e. c.if-load_u8-k.false (c.load_u8.ensures ∙ e)) in
-    all_below_more c.loop-i.i _ c.loop-i.invariant (ap not other)
+has_in_a_row : (f : ℕ → ℕ) (k : ℕ) (g : ℕ → Bool) (a n : ℕ) → ((i : ℕ) → i < n → g (a + i) ≡ eqb (f i) k) → list_any g (range_with_len a n) ≡ has (tabulate n f) k
+unfolding tabulate
+has_in_a_row f k g a zero h = refl
+has_in_a_row f k g a (suc n) h =
+    let first : g a ≡ eqb (f 0) k = ap g (omega arith) ∙ h 0 (omega arith) in
+    let rest = has_in_a_row (λ i. f (suc i)) k g (a + 1) n (λ i l. ap g (omega arith) ∙ h (suc i) (omega arith)) in
+    rw (first, rest)
 
 pub returns : goal.returns
 returns c =
-    let e : c.loop-i.i ≡ c.args.n = omega arith in
-    sym (not-true _ (has_none _ _ _ ∙ rw e at c.loop-i.invariant))
+    let a = c.args in
+    any_from_yields_List (λ i. eqb (load 1 a.b.now (a.at + i)) a.k) _ _ _ c.any.ensures.ran (YieldsList-from_range 0 a.n a.n refl (omega arith)) (λ i b q k. search rules)
+    ∙ has_in_a_row _ _ _ 0 a.n (λ i l. ap (λ (j : ℕ). eqb (load 1 a.b.now (a.at + j)) a.k) (omega arith))

@@ -1,20 +1,16 @@
--- `record::times::none_above` meets its contract: none of the first i entries is above x.
-use mathlib.Core.Path.{sym}
-use native.Mathlib.Omega.{arith}
-use borrow.Author.Tests.{le-leb, lt-leb}
-use Rattle.codec.proofs.Below.{all_below_none, all_below_more, all_below_fails}
+-- `record::times::none_above` meets its contract: each entry is compared with x.
+use mathlib.Core.Path.{◌∙◌}
+use borrow.Author.Rules.{rules}
+use Prim.Native.Nat.{◌+◌, ◌*◌}
+use lib.Dec.{leb}
+use Rattle.codec.specs.Le.{load}
+use Rattle.codec.proofs.Below.{all_below_ext}
 use Rattle.vector.proofs.Entries.{load_vec-below}
+use Rattle.record.proofs.InRange.{all_in_range}
 use Rattle.record.proofs.times.none_above.Goals as goal
 
-pub loop-i-init : goal.loop-i-init
-loop-i-init c = all_below_none _
-
-pub returns-then-x-load_u64 : goal.returns-then-x-load_u64
-returns-then-x-load_u64 c =
-    let here = load_vec-below c.args.b.now c.args.at c.loop-i.i (omega arith) in
-    sym (all_below_fails 4 _ c.loop-i.i (omega arith) (rw (here, ← c.load_u64.ensures) (lt-leb _ _ c.if-x-load_u64.true)))
-
-pub loop-i-preserved : goal.loop-i-preserved
-loop-i-preserved c =
-    let here = load_vec-below c.args.b.now c.args.at c.loop-i.i (omega arith) in
-    all_below_more c.loop-i.i _ c.loop-i.invariant (rw (here, ← c.load_u64.ensures) (le-leb _ _ c.if-x-load_u64.false))
+pub returns : goal.returns
+returns c =
+    let a = c.args in
+    all_in_range 4 (λ i. leb (load 8 a.b.now (a.at + 8 * i)) a.x) c.all.ensures.ran (λ i b q k. search rules)
+    ∙ all_below_ext 4 _ _ (λ i l. rw (load_vec-below a.b.now a.at i l))
