@@ -6,6 +6,7 @@
 
 ghost use Rattle.std.specs.Prelude.{◌≡◌, ◌+◌, ◌*◌, ◌/◌, ◌^◌, ◌<◌, ◌≤◌, length};
 
+use codec::Number;
 use protocol::Values;
 use std::fmt::{self, Write};
 use std::io::{self, Read};
@@ -66,7 +67,7 @@ fn values_in(answer: &[u8]) -> Values
         source: answer[1],
         quality: answer[2],
         level: codec::load_level(answer, 4),
-        stamp: codec::load_u64(answer, 8),
+        stamp: u64::load(answer, 8),
     }
 }
 

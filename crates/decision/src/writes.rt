@@ -15,6 +15,7 @@ ghost use Rattle.outcome.specs.Decided.{decided_of};
 ghost use Rattle.decision.specs.Answered.{answered};
 
 use crate::lookup;
+use codec::Number;
 use outcome::{Decided, Effect, answers};
 use parts::{channels, nodes};
 use protocol::Reason;
@@ -44,7 +45,7 @@ fn has_room(t: &[u8], m: u8, p: u8) -> bool
     requires { Long t.now × (1 ≤ load 1 t.now 0) × (load 1 t.now 0 ≤ 4) × (m < 4) × (p < 4) }
     ensures { result ≡ all_below (load 1 t.now 0 - 1) (λ d. ltb (wait_in (channel_of (site_of t.now m) p d)) 8) }
 {
-    let n = codec::load_u8(t, 0) as usize - 1;
+    let n = u8::load(t, 0) as usize - 1;
     let mut all = true;
     for d in 0..n {
         all &= channels::waiting(places::channel(t, m, p, d)) < 8;

@@ -4,6 +4,8 @@ ghost use Rattle.std.specs.Prelude.{◌≡◌, ◌<◌, length};
 ghost use Rattle.event.specs.Fields.{rest_zero};
 ghost use Rattle.event.specs.Ranges.{used_by, zero_in};
 
+use codec::Number;
+
 const YES: bool = true;
 
 const NO: bool = false;
@@ -36,16 +38,16 @@ pub fn zero(e: &[u8]) -> [bool; 10]
     ensures { result ≡ zero_in e.now }
 {
     [
-        codec::load_u8(e, 1) == 0,
-        codec::load_u8(e, 2) == 0,
-        codec::load_u8(e, 3) == 0,
-        codec::load_u8(e, 4) == 0,
-        codec::load_u8(e, 5) == 0,
-        codec::load_u8(e, 6) == 0,
-        codec::load_u8(e, 7) == 0,
-        codec::load_u64(e, 8) == 0,
-        codec::load_u32(e, 16) == 0,
-        codec::load_u64(e, 20) == 0,
+        u8::load(e, 1) == 0,
+        u8::load(e, 2) == 0,
+        u8::load(e, 3) == 0,
+        u8::load(e, 4) == 0,
+        u8::load(e, 5) == 0,
+        u8::load(e, 6) == 0,
+        u8::load(e, 7) == 0,
+        u64::load(e, 8) == 0,
+        u32::load(e, 16) == 0,
+        u64::load(e, 20) == 0,
     ]
 }
 
@@ -54,13 +56,13 @@ pub fn rest_zero(e: &[u8]) -> bool
     requires { length e.now ≡ 32 }
     ensures { result ≡ rest_zero e.now }
 {
-    if codec::load_u64(e, 20) == 0 {
+    if u64::load(e, 20) == 0 {
         return true;
     }
-    let count = codec::load_u8(e, 7) as usize;
+    let count = u8::load(e, 7) as usize;
     let mut all = true;
     for i in 0..8 {
-        all &= (i < count) | (codec::load_u8(e, 20 + i) == 0);
+        all &= (i < count) | (u8::load(e, 20 + i) == 0);
     }
     all
 }

@@ -12,6 +12,7 @@ ghost use Rattle.event.specs.Event.{code_lawful, event_of, met};
 ghost use Rattle.event.specs.Meaning.{fields_in, as_event, Says, IsRefusal};
 ghost use Rattle.event.specs.Ranges.{field_lawful};
 
+use codec::Number;
 use protocol::Reason;
 use protocol::limits::Setting;
 
@@ -39,15 +40,15 @@ pub fn load_fields(e: &[u8]) -> Fields
     ensures { result ≡ fields_in e.now }
 {
     Fields {
-        code: codec::load_u8(e, 0),
-        site: codec::load_u8(e, 1),
-        partition: codec::load_u8(e, 2),
-        session: codec::load_u8(e, 3),
-        key: codec::load_u8(e, 4),
-        quality: codec::load_u8(e, 5),
-        from: codec::load_u8(e, 6),
-        count: codec::load_u8(e, 7),
-        time: codec::load_u64(e, 8),
+        code: u8::load(e, 0),
+        site: u8::load(e, 1),
+        partition: u8::load(e, 2),
+        session: u8::load(e, 3),
+        key: u8::load(e, 4),
+        quality: u8::load(e, 5),
+        from: u8::load(e, 6),
+        count: u8::load(e, 7),
+        time: u64::load(e, 8),
         level: codec::load_level(e, 16),
         keys: codec::load_eight(e, 20),
     }
@@ -177,8 +178,7 @@ pub fn fields_lawful(e: &[u8], setting: Setting) -> bool
     let x = load_fields(e);
     let used = flags::used((x.code - 1) as usize);
     let within = bounds::in_range(x, setting);
-    each_lawful(used, flags::zero(e), within)
-        & (flags::rest_zero(e) & (codec::load_u32(e, 28) == 0))
+    each_lawful(used, flags::zero(e), within) & (flags::rest_zero(e) & (u32::load(e, 28) == 0))
 }
 
 // An event as its bytes say it, in an archive with this setting.

@@ -7,6 +7,7 @@ ghost use Rattle.parts.specs.Channel.{ring_at};
 ghost use Rattle.lawful.specs.WellFormed.{channel_formed};
 
 use crate::nodes;
+use codec::Number;
 use protocol::limits::Setting;
 use record::formed;
 
@@ -37,6 +38,6 @@ pub fn channel_formed(b: &[u8], setting: Setting, i: u8, p: u8, d: u8) -> bool
     {
         return false;
     }
-    let front = codec::load_u8(b, 0);
+    let front = u8::load(b, 0);
     messages_formed(b, setting, i, p, front, wait)
 }

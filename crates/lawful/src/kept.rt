@@ -3,6 +3,8 @@ ghost use Rattle.std.specs.Prelude.{◌≡◌, eqb, length};
 ghost use Rattle.codec.specs.Le.{load};
 ghost use Rattle.codec.specs.Below.{all_below};
 
+use codec::Number;
+
 // Whether 64 bytes are the same as 64 others: as eight words, each of which is compared.
 pub fn same_places(a: &[u8], b: &[u8]) -> bool
     requires { (length a.now ≡ 64) × (length b.now ≡ 64) }
@@ -10,7 +12,7 @@ pub fn same_places(a: &[u8], b: &[u8]) -> bool
 {
     let mut same = true;
     for i in 0..8 {
-        same &= codec::load_u64(a, 8 * i) == codec::load_u64(b, 8 * i);
+        same &= u64::load(a, 8 * i) == u64::load(b, 8 * i);
     }
     same
 }

@@ -8,6 +8,7 @@ ghost use Rattle.parts.specs.Node.{slot_at, held_in};
 ghost use Rattle.lawful.specs.WellFormed.{node_formed, kept_formed};
 
 use crate::kept;
+use codec::Number;
 use protocol::limits::Setting;
 use record::{formed, times};
 
@@ -30,7 +31,7 @@ fn records_formed(n: &[u8], s: &[u8], setting: Setting, p: u8, held: u8) -> bool
         if !formed::record_formed(n, 64 + 56 * slot, setting, p) {
             return false;
         }
-        let key = codec::load_u8(n, 64 + 56 * slot) as usize;
+        let key = u8::load(n, 64 + 56 * slot) as usize;
         best[key] = search::later(n, slot, best[key] as usize) as u8;
     }
     kept::same_places(s, &best)

@@ -6,12 +6,14 @@ ghost use Rattle.codec.specs.Lists.{has};
 ghost use Rattle.codec.specs.Tests.{every};
 ghost use Rattle.protocol.specs.Needs.{keys_lawful, distinct};
 
+use codec::Number;
+
 // The key k is one of the n from `at`.
 fn holds_key(b: &[u8], at: usize, n: usize, k: u8) -> bool
     requires { at + n ≤ length b.now }
     ensures { result ≡ has (tabulate n (λ i. load 1 b.now (at + i))) k }
 {
-    (0..n).any(|i| codec::load_u8(b, at + i) == k)
+    (0..n).any(|i| u8::load(b, at + i) == k)
 }
 
 // The n keys from `at` are 0 to 63 and differ: none is one of those before it. A loop: with `all` it is not unrolled, and slower.
@@ -20,7 +22,7 @@ fn keys_formed(b: &[u8], at: usize, n: usize) -> bool
     ensures { result ≡ (keys_lawful (tabulate n (λ i. load 1 b.now (at + i))) && distinct (tabulate n (λ i. load 1 b.now (at + i)))) }
 {
     for i in 0..n {
-        let k = codec::load_u8(b, at + i);
+        let k = u8::load(b, at + i);
         if 64 <= k {
             return false;
         }
@@ -36,7 +38,7 @@ pub fn page_keys(b: &[u8], count: u8) -> bool
     requires { (length b.now ≡ 128) × (count ≤ 8) }
     ensures { result ≡ (not (eqb (load 1 b.now 2) 1) || every (ltb 0 count ∷ keys_lawful (tabulate count (λ i. load 1 b.now (8 + i))) ∷ distinct (tabulate count (λ i. load 1 b.now (8 + i))) ∷ [])) }
 {
-    if codec::load_u8(b, 2) != 1 {
+    if u8::load(b, 2) != 1 {
         return true;
     }
     if count == 0 {

@@ -7,6 +7,7 @@ ghost use Rattle.lawful.specs.LawfulValues.{page_lawful};
 ghost use Rattle.lawful.specs.WellFormed.{flags_at, session_formed};
 
 use crate::pages;
+use codec::Number;
 use protocol::limits::Setting;
 use record::times;
 
@@ -18,7 +19,7 @@ fn flags_formed(b: &[u8], at: usize, n: usize) -> bool
     requires { at + n ≤ length b.now }
     ensures { result ≡ flags_at b.now at n }
 {
-    (0..n).all(|i| codec::load_u8(b, at + i) < FLAGS)
+    (0..n).all(|i| u8::load(b, at + i) < FLAGS)
 }
 
 // The keys of a page that is not open are not looked at.
@@ -26,7 +27,7 @@ fn page_lawful(b: &[u8], setting: Setting) -> bool
     requires { length b.now ≡ 128 }
     ensures { result ≡ page_lawful (setting_of setting) (session_in b.now).page }
 {
-    let count = codec::load_u8(b, 3);
+    let count = u8::load(b, 3);
     if 8 < count {
         return false;
     }
@@ -44,10 +45,10 @@ fn site_lawful(b: &[u8], setting: Setting) -> bool
     requires { length b.now ≡ 128 }
     ensures { result ≡ (not (eqb (load 1 b.now 0) 1) || ltb (load 1 b.now 1) setting.sites) }
 {
-    if codec::load_u8(b, 0) != 1 {
+    if u8::load(b, 0) != 1 {
         return true;
     }
-    codec::load_u8(b, 1) < setting.sites
+    u8::load(b, 1) < setting.sites
 }
 
 // Single bytes first, then the vector and the page.
@@ -55,10 +56,10 @@ pub fn session_formed(b: &[u8], setting: Setting) -> bool
     requires { length b.now ≡ 128 }
     ensures { result ≡ session_formed (setting_of setting) b.now }
 {
-    if 2 <= codec::load_u8(b, 0) {
+    if 2 <= u8::load(b, 0) {
         return false;
     }
-    if 2 <= codec::load_u8(b, 2) {
+    if 2 <= u8::load(b, 2) {
         return false;
     }
     if !site_lawful(b, setting) {

@@ -5,6 +5,7 @@ ghost use Rattle.record.specs.RecordBytes.{message_at};
 ghost use Rattle.record.specs.Meaning.{as_message};
 ghost use Rattle.parts.specs.Channel.{front_in, wait_in, ring_at, pushed, popped};
 
+use codec::Number;
 use record::{Letter, bytes};
 
 // Where the message k behind the front stands.
@@ -19,14 +20,14 @@ pub fn waiting(c: &[u8]) -> u8
     requires { length c.now ≡ 464 }
     ensures { result ≡ wait_in c.now }
 {
-    codec::load_u8(c, 1)
+    u8::load(c, 1)
 }
 
 fn front(c: &[u8]) -> u8
     requires { length c.now ≡ 464 }
     ensures { result ≡ front_in c.now }
 {
-    codec::load_u8(c, 0)
+    u8::load(c, 0)
 }
 
 // The message in front, where one waits.
@@ -45,7 +46,7 @@ pub fn push(c: &mut [u8], m: u8, x: Letter)
     let wait = waiting(c);
     let at = place(front(c), wait);
     bytes::store_message(c, at, m, x);
-    codec::store_u8(c, 1, wait + 1);
+    (wait + 1).store(c, 1);
 }
 
 // The message in front leaves.
@@ -55,6 +56,6 @@ pub fn pop(c: &mut [u8])
 {
     let wait = waiting(c);
     let next = (front(c) as usize + 1) % 8;
-    codec::store_u8(c, 0, next as u8);
-    codec::store_u8(c, 1, wait - 1);
+    (next as u8).store(c, 0);
+    (wait - 1).store(c, 1);
 }

@@ -8,6 +8,7 @@ ghost use Rattle.record.specs.Meaning.{as_message};
 ghost use Rattle.parts.specs.Node.{clock_in, heard_in, held_in, slot_at, clock_set, stored, published, received};
 ghost use Rattle.parts.specs.Room.{Room};
 
+use codec::Number;
 use record::{Letter, Message, bytes};
 use vector::Vector;
 
@@ -15,7 +16,7 @@ pub fn clock(n: &[u8]) -> u64
     requires { length n.now ≡ 1856 }
     ensures { result ≡ clock_in n.now }
 {
-    codec::load_u64(n, 0)
+    u64::load(n, 0)
 }
 
 pub fn heard(n: &[u8]) -> Vector
@@ -30,14 +31,14 @@ pub fn held(n: &[u8]) -> u8
     requires { length n.now ≡ 1856 }
     ensures { result ≡ held_in n.now }
 {
-    codec::load_u8(n, 40)
+    u8::load(n, 40)
 }
 
 pub fn set_clock(n: &mut [u8], t: u64)
     requires { length n.old ≡ 1856 }
     ensures { n.new ≡ clock_set t n.old }
 {
-    codec::store_u64(n, 0, t);
+    t.store(n, 0);
 }
 
 // An update goes behind the other records. It says itself whose it is, so the site that sends it is not asked.
@@ -47,7 +48,7 @@ fn add(n: &mut [u8], x: Letter)
 {
     let k = held(n);
     bytes::store_message(n, 64 + 56 * (k as usize), 0, x);
-    codec::store_u8(n, 40, k + 1);
+    (k + 1).store(n, 40);
 }
 
 // A heartbeat changes nothing.
@@ -69,7 +70,7 @@ pub fn publish(n: &mut [u8], m: usize, x: Letter)
     requires { (length n.old ≡ 1856) × (m < 4) × Room (as_message x) n.old }
     ensures { n.new ≡ published m (as_message x) n.old }
 {
-    codec::store_u64(n, 8 + 8 * m, bytes::stamp(x));
+    bytes::stamp(x).store(n, 8 + 8 * m);
     store(n, x);
 }
 
@@ -79,7 +80,7 @@ pub fn receive(n: &mut [u8], i: usize, x: Letter)
     ensures { n.new ≡ received i (as_message x) n.old }
 {
     let at = 8 + 8 * i;
-    let heard = codec::load_u64(n, at);
-    codec::store_u64(n, at, vector::later(heard, bytes::stamp(x)));
+    let heard = u64::load(n, at);
+    vector::later(heard, bytes::stamp(x)).store(n, at);
     store(n, x);
 }

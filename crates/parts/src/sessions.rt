@@ -7,6 +7,7 @@ ghost use Rattle.parts.specs.Session.{session_in, flag, put_marks, head_fields, 
 ghost use Rattle.parts.specs.Meaning.{as_session};
 
 use crate::Session;
+use codec::Number;
 
 fn load_marks(b: &[u8]) -> [bool; 8]
     requires { length b.now ≡ 128 }
@@ -14,7 +15,7 @@ fn load_marks(b: &[u8]) -> [bool; 8]
 {
     let mut marks = [false; 8];
     for (i, mark) in marks.iter_mut().enumerate() {
-        *mark = codec::load_u8(b, 16 + i) == 1;
+        *mark = u8::load(b, 16 + i) == 1;
     }
     marks
 }
@@ -23,10 +24,10 @@ pub fn load(b: &[u8]) -> Session
     requires { (length b.now ≡ 128) × (load 1 b.now 3 ≤ 8) }
     ensures { as_session result ≡ session_in b.now }
 {
-    let open = codec::load_u8(b, 0) == 1;
-    let site = codec::load_u8(b, 1);
-    let paged = codec::load_u8(b, 2) == 1;
-    let count = codec::load_u8(b, 3);
+    let open = u8::load(b, 0) == 1;
+    let site = u8::load(b, 1);
+    let paged = u8::load(b, 2) == 1;
+    let count = u8::load(b, 3);
     let keys = codec::load_eight(b, 8);
     let marks = load_marks(b);
     let vec = vector::load_vector(b, 32);
@@ -49,8 +50,8 @@ fn store_mark(b: &mut [u8], i: usize, key: u8, read: bool)
     requires { (length b.old ≡ 128) × (i < 8) }
     ensures { b.new ≡ put 1 (put 1 b.old (8 + i) key) (16 + i) (flag read) }
 {
-    codec::store_u8(b, 8 + i, key);
-    codec::store_u8(b, 16 + i, u8::from(read));
+    key.store(b, 8 + i);
+    u8::from(read).store(b, 16 + i);
 }
 
 fn store_marks(b: &mut [u8], x: Session)
@@ -70,10 +71,10 @@ fn store_head(b: &mut [u8], x: Session)
     requires { length b.old ≡ 128 }
     ensures { b.new ≡ put_all 0 (head_fields (as_session x)) b.old }
 {
-    codec::store_u8(b, 0, u8::from(x.open));
-    codec::store_u8(b, 1, x.site);
-    codec::store_u8(b, 2, u8::from(x.paged));
-    codec::store_u8(b, 3, x.count);
+    u8::from(x.open).store(b, 0);
+    x.site.store(b, 1);
+    u8::from(x.paged).store(b, 2);
+    x.count.store(b, 3);
 }
 
 pub fn store(b: &mut [u8], x: Session)

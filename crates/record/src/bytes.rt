@@ -7,6 +7,7 @@ ghost use Rattle.record.specs.RecordBytes.{record_at, message_at, put_record, pu
 ghost use Rattle.record.specs.Meaning.{record_of, as_record, as_message};
 
 use crate::{Letter, Message, Numbers, Record};
+use codec::Number;
 use vector::Vector;
 
 // A stored record has kind 1.
@@ -18,11 +19,11 @@ pub fn load_record(b: &[u8], at: usize) -> Record
     requires { at + 48 ≤ length b.now }
     ensures { as_record result ≡ record_at b.now at }
 {
-    let key = codec::load_u8(b, at);
-    let source = codec::load_u8(b, at + 1);
-    let quality = codec::load_u8(b, at + 2);
+    let key = u8::load(b, at);
+    let source = u8::load(b, at + 1);
+    let quality = u8::load(b, at + 2);
     let level = codec::load_level(b, at + 4);
-    let stamp = codec::load_u64(b, at + 8);
+    let stamp = u64::load(b, at + 8);
     let carried = vector::load_vector(b, at + 16);
     let numbers = Numbers {
         key,
@@ -39,7 +40,7 @@ pub fn load_message(b: &[u8], at: usize) -> Letter
     requires { at + 48 ≤ length b.now }
     ensures { as_message result ≡ message_at b.now at }
 {
-    if codec::load_u8(b, at + 3) == UPDATE {
+    if u8::load(b, at + 3) == UPDATE {
         let r = load_record(b, at);
         let numbers = r.numbers;
         let message = Message::Update(numbers);
@@ -47,7 +48,7 @@ pub fn load_message(b: &[u8], at: usize) -> Letter
         Letter { message, carried }
     } else {
         let message = Message::Heartbeat {
-            stamp: codec::load_u64(b, at + 8),
+            stamp: u64::load(b, at + 8),
         };
         Letter {
             message,
@@ -82,12 +83,12 @@ fn store_fields(b: &mut [u8], at: usize, kind: u8, r: Numbers, carried: Vector)
     requires { at + 48 ≤ length b.old }
     ensures { b.new ≡ put_record b.old at kind (record_of r carried) }
 {
-    codec::store_u8(b, at, r.key);
-    codec::store_u8(b, at + 1, r.source);
-    codec::store_u8(b, at + 2, r.quality);
-    codec::store_u8(b, at + 3, kind);
+    r.key.store(b, at);
+    r.source.store(b, at + 1);
+    r.quality.store(b, at + 2);
+    kind.store(b, at + 3);
     codec::store_level(b, at + 4, r.level);
-    codec::store_u64(b, at + 8, r.stamp);
+    r.stamp.store(b, at + 8);
     vector::store_vector(b, at + 16, carried);
 }
 

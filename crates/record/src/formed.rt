@@ -8,6 +8,7 @@ ghost use Rattle.record.specs.Ranges.{record_in_range, record_lawful, message_la
 ghost use Rattle.record.specs.RecordFormed.{record_formed, heartbeat_formed, message_formed};
 
 use crate::times;
+use codec::Number;
 use protocol::limits;
 use protocol::limits::Setting;
 
@@ -21,19 +22,19 @@ pub fn record_in_range(b: &[u8], at: usize, setting: Setting) -> bool
     requires { at + 48 ≤ length b.now }
     ensures { result ≡ record_in_range (setting_of setting) (record_at b.now at) }
 {
-    if 64 <= codec::load_u8(b, at) {
+    if 64 <= u8::load(b, at) {
         return false;
     }
-    if setting.sites <= codec::load_u8(b, at + 1) {
+    if setting.sites <= u8::load(b, at + 1) {
         return false;
     }
-    if QUALITIES <= codec::load_u8(b, at + 2) {
+    if QUALITIES <= u8::load(b, at + 2) {
         return false;
     }
     if !limits::level_lawful(codec::load_level(b, at + 4)) {
         return false;
     }
-    if !times::stamp_lawful(codec::load_u64(b, at + 8), setting) {
+    if !times::stamp_lawful(u64::load(b, at + 8), setting) {
         return false;
     }
     times::vector_formed(b, at + 16, setting)
@@ -44,7 +45,7 @@ pub fn record_lawful(b: &[u8], at: usize, setting: Setting, p: u8) -> bool
     requires { (at + 48 ≤ length b.now) × (0 < setting.partitions) }
     ensures { result ≡ record_lawful (setting_of setting) p (record_at b.now at) }
 {
-    if limits::partition_of(codec::load_u8(b, at), setting.partitions) != p {
+    if limits::partition_of(u8::load(b, at), setting.partitions) != p {
         return false;
     }
     record_in_range(b, at, setting)
@@ -55,7 +56,7 @@ pub fn record_formed(n: &[u8], at: usize, setting: Setting, p: u8) -> bool
     requires { (at + 48 ≤ length n.now) × (0 < setting.partitions) }
     ensures { result ≡ record_formed (setting_of setting) p n.now at }
 {
-    if codec::load_u8(n, at + 3) != 1 {
+    if u8::load(n, at + 3) != 1 {
         return false;
     }
     record_lawful(n, at, setting, p)
@@ -66,7 +67,7 @@ fn update_formed(b: &[u8], at: usize, setting: Setting, i: u8, p: u8) -> bool
     requires { (at + 48 ≤ length b.now) × (0 < setting.partitions) }
     ensures { result ≡ message_lawful (setting_of setting) i p (Update (record_at b.now at)) }
 {
-    if codec::load_u8(b, at + 1) != i {
+    if u8::load(b, at + 1) != i {
         return false;
     }
     record_lawful(b, at, setting, p)
@@ -78,10 +79,10 @@ fn heartbeat_formed(b: &[u8], at: usize, i: u8) -> bool
     requires { at + 48 ≤ length b.now }
     ensures { result ≡ heartbeat_formed i b.now at }
 {
-    let key = codec::load_u8(b, at);
-    let source = codec::load_u8(b, at + 1);
-    let quality = codec::load_u8(b, at + 2);
-    let level = codec::load_u32(b, at + 4);
+    let key = u8::load(b, at);
+    let source = u8::load(b, at + 1);
+    let quality = u8::load(b, at + 2);
+    let level = u32::load(b, at + 4);
     (key == 0)
         & ((source == i)
             & ((quality == 0)
@@ -93,12 +94,12 @@ pub fn message_formed(b: &[u8], at: usize, setting: Setting, i: u8, p: u8) -> bo
     requires { (at + 48 ≤ length b.now) × (0 < setting.partitions) }
     ensures { result ≡ message_formed (setting_of setting) i p b.now at }
 {
-    let kind = codec::load_u8(b, at + 3);
+    let kind = u8::load(b, at + 3);
     if kind == 1 {
         return update_formed(b, at, setting, i, p);
     }
     if kind != LAST_KIND {
         return false;
     }
-    heartbeat_formed(b, at, i) & times::stamp_lawful(codec::load_u64(b, at + 8), setting)
+    heartbeat_formed(b, at, i) & times::stamp_lawful(u64::load(b, at + 8), setting)
 }

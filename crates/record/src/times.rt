@@ -9,6 +9,7 @@ ghost use Rattle.protocol.specs.Times.{top_of};
 ghost use Rattle.protocol.specs.Meaning.{setting_of};
 ghost use Rattle.record.specs.Ranges.{time_lawful, stamp_lawful, vec_lawful};
 
+use codec::Number;
 use protocol::limits;
 use protocol::limits::Setting;
 use vector::Vector;
@@ -63,5 +64,5 @@ pub fn none_above(b: &[u8], at: usize, x: u64) -> bool
     requires { at + 32 ≤ length b.now }
     ensures { result ≡ all_below width (λ i. leb (load_vec b.now at i) x) }
 {
-    (0..Vector::WIDTH).all(|i| codec::load_u64(b, at + 8 * i) <= x)
+    (0..Vector::WIDTH).all(|i| u64::load(b, at + 8 * i) <= x)
 }

@@ -10,6 +10,7 @@ ghost use Rattle.record.specs.RecordBytes.{record_at};
 ghost use Rattle.parts.specs.Node.{slot_at, held_in, store_in};
 ghost use Rattle.search.specs.Found.{fits, found_of, Sited};
 
+use codec::Number;
 use parts::nodes;
 use record::{Record, bytes};
 use vector::Vector;
@@ -26,7 +27,7 @@ fn is_candidate(n: &[u8], at: usize, w: Wanted) -> bool
     requires { at + 48 ≤ length n.now }
     ensures { result ≡ fits w (record_at n.now at) }
 {
-    if codec::load_u8(n, at) != w.key {
+    if u8::load(n, at) != w.key {
         return false;
     }
     vector::load_vector(n, at + 16).at_most(w.snapshot)
@@ -38,8 +39,8 @@ fn by_source(n: &[u8], k: usize, best: usize) -> usize
     requires { (length n.now ≡ 1856) × (k < 32) × (best ≤ 32) × ((record_at n.now (8 + 56 * best)).id.stamp ≡ (record_at n.now (slot_at k)).id.stamp) }
     ensures { ((c : Setting) → result ≡ later_place c (λ i. record_at n.now (slot_at i)) k best) × (result ≤ 32) }
 {
-    let than = codec::load_u8(n, 8 + 56 * best + 1);
-    let source = codec::load_u8(n, 64 + 56 * k + 1);
+    let than = u8::load(n, 8 + 56 * best + 1);
+    let source = u8::load(n, 64 + 56 * k + 1);
     if (best == 0) | (than < source) {
         k + 1
     } else {
@@ -53,8 +54,8 @@ pub fn later(n: &[u8], k: usize, best: usize) -> usize
     requires { (length n.now ≡ 1856) × (k < 32) × (best ≤ 32) }
     ensures { ((c : Setting) → result ≡ later_place c (λ i. record_at n.now (slot_at i)) k best) × (result ≤ 32) }
 {
-    let than = codec::load_u64(n, 8 + 56 * best + 8);
-    let stamp = codec::load_u64(n, 64 + 56 * k + 8);
+    let than = u64::load(n, 8 + 56 * best + 8);
+    let stamp = u64::load(n, 64 + 56 * k + 8);
     if than == stamp {
         return by_source(n, k, best);
     }

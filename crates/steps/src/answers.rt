@@ -2,6 +2,7 @@
 ghost use Rattle.std.specs.Prelude.{◌≡◌, ◌+◌, ◌≤◌, length};
 ghost use Rattle.steps.specs.Run.{put_answer};
 
+use codec::Number;
 use protocol::{Answer, Values};
 
 // The answer's 16 bytes go to `at`.
@@ -10,10 +11,10 @@ pub fn store_answer(b: &mut [u8], at: usize, a: Answer)
     ensures { b.new ≡ put_answer b.old at a }
 {
     let v = Values::from(a);
-    codec::store_u8(b, at, v.number);
-    codec::store_u8(b, at + 1, v.source);
-    codec::store_u8(b, at + 2, v.quality);
-    codec::store_u8(b, at + 3, 0);
+    v.number.store(b, at);
+    v.source.store(b, at + 1);
+    v.quality.store(b, at + 2);
+    0u8.store(b, at + 3);
     codec::store_level(b, at + 4, v.level);
-    codec::store_u64(b, at + 8, v.stamp);
+    v.stamp.store(b, at + 8);
 }

@@ -8,6 +8,7 @@ ghost use Rattle.table.specs.Parts.{Whole, site_of, node_of, kept_of};
 ghost use Rattle.table.specs.Noted.{noted, message_noted, Notable};
 
 use crate::places;
+use codec::Number;
 use parts::nodes;
 use record::{Letter, Message};
 
@@ -16,7 +17,7 @@ pub fn place(t: &[u8], m: u8, p: u8, k: usize) -> usize
     requires { Whole t.now × (m < 4) × (p < 4) × (k < 64) }
     ensures { result ≡ load 1 (kept_of t.now m p) k }
 {
-    codec::load_u8(places::kept(t, m, p), k) as usize
+    u8::load(places::kept(t, m, p), k) as usize
 }
 
 // The last record of node (m, p) is of key k: it is compared with the kept one alone.
@@ -30,7 +31,7 @@ fn note(t: &mut [u8], m: usize, p: usize, k: usize)
     let newest = search::later(n, last, best) as u8;
     let off = places::kept_at(m, p);
     let end = off + places::KEPT;
-    codec::store_u8(&mut t[off..end], k, newest);
+    newest.store(&mut t[off..end], k);
 }
 
 // The message that node (m, p) made or took in.

@@ -17,6 +17,7 @@ ghost use Rattle.table.specs.Decode.{setting_in};
 ghost use Rattle.table.specs.Put.{put_change};
 ghost use Rattle.table.specs.Fits.{FitsPublish, FitsReceive};
 
+use codec::Number;
 use parts::{Session, sessions};
 use protocol::limits::Setting;
 use record::Letter;
@@ -39,8 +40,8 @@ pub fn setting(t: &[u8]) -> Setting
     ensures { setting_of result ≡ setting_in t.now }
 {
     Setting {
-        sites: codec::load_u8(t, 0),
-        partitions: codec::load_u8(t, 1),
+        sites: u8::load(t, 0),
+        partitions: u8::load(t, 1),
     }
 }
 
@@ -67,7 +68,7 @@ pub fn publish(t: &mut [u8], m: usize, p: usize, x: Letter)
     requires { FitsPublish m p (as_message x) t.old }
     ensures { t.new ≡ put_change (Publish m p (as_message x)) t.old }
 {
-    let n = codec::load_u8(t, 0) as usize - 1;
+    let n = u8::load(t, 0) as usize - 1;
     let off = places::site_at(m);
     let end = off + places::SITE;
     sites::publish(&mut t[off..end], n, m, p, x);

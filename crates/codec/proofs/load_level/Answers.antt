@@ -9,4 +9,4 @@ use Rattle.codec.proofs.load_level.Goals as goal
 pub returns : goal.returns
 returns c =
     let cast = c.cast_signed in
-    to_z-of_z w32 cast.result (record { sfits = cast.type_inv }) ∙ cast.ensures ∙ signed_is _ ∙ ap level_from c.load_u32.ensures
+    to_z-of_z w32 cast.result (record { sfits = cast.type_inv }) ∙ cast.ensures ∙ signed_is _ ∙ ap level_from c.load.ensures

@@ -10,4 +10,4 @@ use Rattle.codec.proofs.store_level.Goals as goal
 pub returns : goal.returns
 returns c =
     let bits = c.cast_unsigned.ensures ∙ unsigned_is _ ∙ ap bits_of (to_z-of_z w32 c.args.x c.ranges.x) in
-    c.store_u32.ensures ∙ put-at _ refl refl bits
+    c.store.ensures ∙ put-at _ refl refl bits

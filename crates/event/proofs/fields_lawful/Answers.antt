@@ -19,5 +19,5 @@ pub returns : goal.returns
 unfolding fields_in fields_lawful zero_at
 returns c =
     rw
-    (c.each_lawful.ensures, c.zero.ensures, c.in_range-within.ensures, c.used-used.ensures, c.load_fields-x.ensures, c.rest_zero.ensures, c.load_u32.ensures)
+    (c.each_lawful.ensures, c.zero.ensures, c.in_range-within.ensures, c.used-used.ensures, c.load_fields-x.ensures, c.rest_zero.ensures, c.load.ensures)
     (fields_lawful_lem _ c.args.e.now c.requires.1)

@@ -7,4 +7,4 @@ pub returns : goal.returns
 unfolding fields_in
 returns c =
     rw
-    (to_z-of_z (record { sfits = c.load_level.type_inv }), c.load_u8.ensures, c.load_u8-2.ensures, c.load_u8-3.ensures, c.load_u8-4.ensures, c.load_u8-5.ensures, c.load_u8-6.ensures, c.load_u8-7.ensures, c.load_u8-8.ensures, c.load_u64.ensures, c.load_level.ensures, c.load_eight.ensures)
+    (to_z-of_z (record { sfits = c.load_level.type_inv }), c.load.ensures, c.load-2.ensures, c.load-3.ensures, c.load-4.ensures, c.load-5.ensures, c.load-6.ensures, c.load-7.ensures, c.load-8.ensures, c.load-9.ensures, c.load_level.ensures, c.load_eight.ensures)

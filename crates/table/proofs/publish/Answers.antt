@@ -22,11 +22,11 @@ publish-requires c =
     let site : a.m < 4 = omega (arith, fit.site, fit.sites) in
     let here = site_lent a.t.now a.m _ c.site_at-off.ensures.0 site in (
       search rules,
-      omega (arith, c.load_u8.ensures, fit.sites),
+      omega (arith, c.load.ensures, fit.sites),
       site,
       fit.partition,
       rw (← here) fit.room,
-      rw (c.load_u8.ensures, ← here) fit.ways,
+      rw (c.load.ensures, ← here) fit.ways,
     )
 
 pub note_message-requires : goal.note_message-requires
@@ -34,7 +34,7 @@ unfolding put_core
 note_message-requires c =
     let a = c.args in
     let sent : put_mid c.site_at-off.result (c.site_at-off.result + 13056 - c.site_at-off.result) a.t.now c.publish.new.site ≡ put_core (Publish a.m a.p (as_message a.x)) a.t.now =
-    rw (sym c.load_u8.ensures) (site_back a.t.now a.m _ c.site_at-off.ensures.0 _ (published_on (c.load_u8.result - 1) a.m a.p (as_message a.x)) c.publish.ensures) in
+    rw (sym c.load.ensures) (site_back a.t.now a.m _ c.site_at-off.ensures.0 _ (published_on (c.load.result - 1) a.m a.p (as_message a.x)) c.publish.ensures) in
     let fit = c.requires in
     let x = as_message a.x in
     let long : Long a.t.now = omega (arith, fit.whole) in
@@ -50,6 +50,6 @@ unfolding put_core
 returns c =
     let a = c.args in
     let sent : put_mid c.site_at-off.result (c.site_at-off.result + 13056 - c.site_at-off.result) a.t.now c.publish.new.site ≡ put_core (Publish a.m a.p (as_message a.x)) a.t.now =
-    rw (sym c.load_u8.ensures) (site_back a.t.now a.m _ c.site_at-off.ensures.0 _ (published_on (c.load_u8.result - 1) a.m a.p (as_message a.x)) c.publish.ensures) in
+    rw (sym c.load.ensures) (site_back a.t.now a.m _ c.site_at-off.ensures.0 _ (published_on (c.load.result - 1) a.m a.p (as_message a.x)) c.publish.ensures) in
     let x = as_message a.x in
     c.note_message.ensures ∙ ap (message_noted a.m a.p x) sent ∙ publish-noted a.m a.p x a.t.now c.requires

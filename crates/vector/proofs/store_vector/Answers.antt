@@ -10,7 +10,7 @@ loop-i-init c = sym (put_first_none _ _ _)
 
 pub loop-i-preserved : goal.loop-i-preserved
 unfolding entry
-loop-i-preserved c = c.store_u64.ensures ∙ rw c.loop-i.invariant (sym (put_first-step _ _ _ _))
+loop-i-preserved c = c.store.ensures ∙ rw c.loop-i.invariant (sym (put_first-step _ _ _ _))
 
 pub returns : goal.returns
 unfolding put_vec

@@ -8,7 +8,7 @@ pub returns : goal.returns
 unfolding zero_in zero_at tabulate
 returns c =
     rw
-    (c.load_u8.ensures, c.load_u8-2.ensures, c.load_u8-3.ensures)
+    (c.load.ensures, c.load-2.ensures, c.load-3.ensures)
     (rw
-    (c.load_u8-4.ensures, c.load_u8-5.ensures, c.load_u8-6.ensures, c.load_u8-7.ensures)
-    (rw (c.load_u64.ensures, c.load_u32.ensures, c.load_u64-2.ensures)))
+    (c.load-4.ensures, c.load-5.ensures, c.load-6.ensures, c.load-7.ensures)
+    (rw (c.load-8.ensures, c.load-9.ensures, c.load-10.ensures)))

@@ -40,4 +40,4 @@ unfolding channel_formed front_in
 returns c =
     let wait = c.waiting-wait.ensures in
     let few = rw (c.most.ensures.0, place_there, wait) at c.if-most-wait.false in
-    rw (le-leb _ _ few, c.messages_formed.ensures, c.load_u8-front.ensures, wait)
+    rw (le-leb _ _ few, c.messages_formed.ensures, c.load-front.ensures, wait)

@@ -10,7 +10,7 @@ loop-i-init c = sym (all_below_none _)
 
 pub loop-i-preserved : goal.loop-i-preserved
 loop-i-preserved c =
-    rw (c.load_u64-in-loop-i.ensures, c.load_u64.ensures, c.loop-i.invariant) (sym (all_below-step c.loop-i.i _))
+    rw (c.load-in-loop-i.ensures, c.load.ensures, c.loop-i.invariant) (sym (all_below-step c.loop-i.i _))
 
 pub returns : goal.returns
 returns c =

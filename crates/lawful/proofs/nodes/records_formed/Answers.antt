@@ -33,28 +33,28 @@ returns-then-not-record_formed c =
     no_and _ (all_below_fails c.args.held _ c.loop-k.k (omega arith) no)
 
 pub bounds-best-key : goal.bounds-best-key
-bounds-best-key c = key_small _ _ _ _ _ c.record_formed.ensures c.if-not-record_formed.false c.load_u8-key.ensures
+bounds-best-key c = key_small _ _ _ _ _ c.record_formed.ensures c.if-not-record_formed.false c.load-key.ensures
 
 pub overflow_cast-best : goal.overflow_cast-best
 overflow_cast-best c =
-    let key = key_small _ _ _ _ _ c.record_formed.ensures c.if-not-record_formed.false c.load_u8-key.ensures in
-    omega (arith, bests_at_most c.args.n.now c.loop-k.best c.loop-k.k c.loop-k.invariant.2 c.load_u8-key.result key)
+    let key = key_small _ _ _ _ _ c.record_formed.ensures c.if-not-record_formed.false c.load-key.ensures in
+    omega (arith, bests_at_most c.args.n.now c.loop-k.best c.loop-k.k c.loop-k.invariant.2 c.load-key.result key)
 
 pub later-requires : goal.later-requires
 later-requires c =
-    let key = key_small _ _ _ _ _ c.record_formed.ensures c.if-not-record_formed.false c.load_u8-key.ensures in
-    (search rules, omega arith, omega (arith, bests_at_most c.args.n.now c.loop-k.best c.loop-k.k c.loop-k.invariant.2 c.load_u8-key.result key))
+    let key = key_small _ _ _ _ _ c.record_formed.ensures c.if-not-record_formed.false c.load-key.ensures in
+    (search rules, omega arith, omega (arith, bests_at_most c.args.n.now c.loop-k.best c.loop-k.k c.loop-k.invariant.2 c.load-key.result key))
 
 pub bounds-best-key-in-loop-k : goal.bounds-best-key-in-loop-k
-bounds-best-key-in-loop-k c = key_small _ _ _ _ _ c.record_formed.ensures c.if-not-record_formed.false c.load_u8-key.ensures
+bounds-best-key-in-loop-k c = key_small _ _ _ _ _ c.record_formed.ensures c.if-not-record_formed.false c.load-key.ensures
 
 pub loop-k-preserved : goal.loop-k-preserved
 unfolding record_at
 loop-k-preserved c =
-    let key = key_small _ _ _ _ _ c.record_formed.ensures c.if-not-record_formed.false c.load_u8-key.ensures in (
+    let key = key_small _ _ _ _ _ c.record_formed.ensures c.if-not-record_formed.false c.load-key.ensures in (
       all_below_more c.loop-k.k _ c.loop-k.invariant.0 (passes c.record_formed.ensures c.if-not-record_formed.false),
       simp length-set c.loop-k.invariant.1,
-      bests_more c.args.n.now c.loop-k.best c.loop-k.k c.load_u8-key.result c.later.result c.loop-k.invariant.1 key (sym c.load_u8-key.ensures) c.loop-k.invariant.2 c.later.ensures.0,
+      bests_more c.args.n.now c.loop-k.best c.loop-k.k c.load-key.result c.later.result c.loop-k.invariant.1 key (sym c.load-key.ensures) c.loop-k.invariant.2 c.later.ensures.0,
     )
 
 pub returns : goal.returns

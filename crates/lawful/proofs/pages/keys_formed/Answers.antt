@@ -12,19 +12,19 @@ loop-i-init c = all_below_none _
 
 pub returns-then-k-ge64 : goal.returns-then-k-ge64
 returns-then-k-ge64 c =
-    let key = c.load_u8-k in
+    let key = c.load-k in
     let no = le-ltb key.result 64 c.if-k-ge64.true in
     sym (keys_all _ _ ∙ all_below_fails _ _ c.loop-i.i (omega arith) (rw (← key.ensures, no)))
 
 pub returns-then-holds_key : goal.returns-then-holds_key
 returns-then-holds_key c =
-    let key = c.load_u8-k in
+    let key = c.load-k in
     let twice = rw (c.holds_key.ensures, key.ensures) at c.if-holds_key.true in
     sym (keys_all _ _ ∙ all_below_fails _ _ c.loop-i.i (omega arith) (rw twice (simp and-false)))
 
 pub loop-i-preserved : goal.loop-i-preserved
 loop-i-preserved c =
-    let key = c.load_u8-k in
+    let key = c.load-k in
     let low = lt-ltb key.result 64 c.if-k-ge64.false in
     let new = rw (c.holds_key.ensures, key.ensures) at c.if-holds_key.false in
     all_below_more c.loop-i.i _ c.loop-i.invariant (rw (new, ← key.ensures, low))

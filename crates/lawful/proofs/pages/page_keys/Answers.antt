@@ -14,15 +14,15 @@ no_key n e = le-ltb 0 n (omega arith)
 some_key : (n : ℕ) → (n ≡ 0 → ⊥) → ltb 0 n ≡ true
 some_key n e = lt-ltb 0 n (omega arith)
 
-pub returns-then-load_u8-ne1 : goal.returns-then-load_u8-ne1
-returns-then-load_u8-ne1 c = rw (ne_eqb _ 1 (λ e. c.if-load_u8-ne1.true (c.load_u8.ensures ∙ e)))
+pub returns-then-load-ne1 : goal.returns-then-load-ne1
+returns-then-load-ne1 c = rw (ne_eqb _ 1 (λ e. c.if-load-ne1.true (c.load.ensures ∙ e)))
 
 pub returns-then-count-eq0 : goal.returns-then-count-eq0
 returns-then-count-eq0 c =
-    let is_open = sym c.load_u8.ensures ∙ c.if-load_u8-ne1.false in
+    let is_open = sym c.load.ensures ∙ c.if-load-ne1.false in
     rw is_open (sym (every_fails _ 0 (no_key _ c.if-count-eq0.true)))
 
 pub returns : goal.returns
 returns c =
-    let is_open = sym c.load_u8.ensures ∙ c.if-load_u8-ne1.false in
+    let is_open = sym c.load.ensures ∙ c.if-load-ne1.false in
     rw (is_open, some_key _ c.if-count-eq0.false) (c.keys_formed.ensures ∙ sym (every-joined _))

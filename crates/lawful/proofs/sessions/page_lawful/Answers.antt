@@ -6,11 +6,11 @@ use Rattle.lawful.proofs.KeyTests.{page_lawful_in}
 use Rattle.lawful.proofs.sessions.page_lawful.Goals as goal
 
 pub returns-then-count-gt8 : goal.returns-then-count-gt8
-returns-then-count-gt8 c = rw page_lawful_in (sym (every_fails _ 0 (lt-leb _ 8 (rw c.load_u8-count.ensures at c.if-count-gt8.true))))
+returns-then-count-gt8 c = rw page_lawful_in (sym (every_fails _ 0 (lt-leb _ 8 (rw c.load-count.ensures at c.if-count-gt8.true))))
 
 pub returns-then-not-page_keys : goal.returns-then-not-page_keys
 returns-then-not-page_keys c =
-    let count = c.load_u8-count.ensures in
+    let count = c.load-count.ensures in
     let no = rw count at (fails c.page_keys.ensures c.if-not-page_keys.true) in
     rw page_lawful_in (sym (every_fails _ 1 no))
 
@@ -21,7 +21,7 @@ returns-then-not-vector_formed c =
 
 pub returns : goal.returns
 returns c =
-    let count = c.load_u8-count.ensures in
+    let count = c.load-count.ensures in
     let few = rw count at c.if-count-gt8.false in
     let yes_keys = rw count at (passes c.page_keys.ensures c.if-not-page_keys.false) in
     let yes_vec = passes c.vector_formed.ensures c.if-not-vector_formed.false in

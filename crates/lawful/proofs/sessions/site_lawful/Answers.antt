@@ -3,10 +3,10 @@ use mathlib.Core.Path.{sym, ◌∙◌}
 use borrow.Author.Tests.{ne_eqb}
 use Rattle.lawful.proofs.sessions.site_lawful.Goals as goal
 
-pub returns-then-load_u8-ne1 : goal.returns-then-load_u8-ne1
-returns-then-load_u8-ne1 c = rw (ne_eqb _ 1 (λ e. c.if-load_u8-ne1.true (c.load_u8.ensures ∙ e)))
+pub returns-then-load-ne1 : goal.returns-then-load-ne1
+returns-then-load-ne1 c = rw (ne_eqb _ 1 (λ e. c.if-load-ne1.true (c.load.ensures ∙ e)))
 
 pub returns : goal.returns
 returns c =
-    let is_open = sym c.load_u8.ensures ∙ c.if-load_u8-ne1.false in
-    rw (is_open, c.load_u8-2.ensures)
+    let is_open = sym c.load.ensures ∙ c.if-load-ne1.false in
+    rw (is_open, c.load-2.ensures)

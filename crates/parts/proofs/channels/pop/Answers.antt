@@ -6,4 +6,4 @@ use Rattle.parts.proofs.channels.pop.Goals as goal
 pub returns : goal.returns
 unfolding popped
 returns c =
-    c.store_u8-2.ensures ∙ rw (c.store_u8.ensures, c.front.ensures, c.waiting-wait.ensures)
+    c.store-2.ensures ∙ rw (c.store.ensures, c.front.ensures, c.waiting-wait.ensures)

@@ -6,5 +6,5 @@ use Rattle.parts.proofs.channels.push.Goals as goal
 pub returns : goal.returns
 unfolding pushed
 returns c =
-    c.store_u8.ensures
+    c.store.ensures
     ∙ rw (c.store_message.ensures, c.place-at.ensures.0, c.front.ensures, c.waiting-wait.ensures)

@@ -4,4 +4,4 @@ use Rattle.parts.proofs.nodes.add.Goals as goal
 
 pub returns : goal.returns
 returns c =
-    c.store_u8.ensures ∙ rw (c.store_message.ensures, c.held-k.ensures)
+    c.store.ensures ∙ rw (c.store_message.ensures, c.held-k.ensures)

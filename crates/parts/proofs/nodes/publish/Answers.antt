@@ -7,11 +7,11 @@ use Rattle.parts.specs.Node.{published}
 use Rattle.parts.proofs.NodeBytes.{room_before}
 use Rattle.parts.proofs.nodes.publish.Goals as goal
 
-pub store-requires : goal.store-requires
-store-requires c =
-    (omega arith, rw c.store_u64.ensures (room_before c.args.n.now 8 (8 + 8 * c.args.m) _ (omega arith) (as_message c.args.x) c.requires.2))
+pub store-requires-2 : goal.store-requires-2
+store-requires-2 c =
+    (omega arith, rw c.store.ensures (room_before c.args.n.now 8 (8 + 8 * c.args.m) _ (omega arith) (as_message c.args.x) c.requires.2))
 
 pub returns : goal.returns
 unfolding published
 returns c =
-    c.store.ensures ∙ rw (c.store_u64.ensures, c.stamp.ensures)
+    c.store-2.ensures ∙ rw (c.store.ensures, c.stamp.ensures)

@@ -12,4 +12,4 @@ pub returns : goal.returns
 unfolding session_in
 returns c =
     let b = c.args.b.now in
-    rw (c.load_vector-gathered.ensures, c.load_vector-snapshot.ensures, c.load_vector-vec.ensures, c.load_u8-count.ensures, marks_loaded b c.load_eight-keys.result c.load_marks-marks.result (load 1 b 3) (omega arith) (λ i h. ap (λ l. get_or l i 0) c.load_eight-keys.ensures ∙ tab_at 8 _ 0 i h) c.load_marks-marks.ensures, c.load_u8-paged.ensures, c.load_u8-site.ensures, c.load_u8-open.ensures)
+    rw (c.load_vector-gathered.ensures, c.load_vector-snapshot.ensures, c.load_vector-vec.ensures, c.load-count.ensures, marks_loaded b c.load_eight-keys.result c.load_marks-marks.result (load 1 b 3) (omega arith) (λ i h. ap (λ l. get_or l i 0) c.load_eight-keys.ensures ∙ tab_at 8 _ 0 i h) c.load_marks-marks.ensures, c.load-paged.ensures, c.load-site.ensures, c.load-open.ensures)

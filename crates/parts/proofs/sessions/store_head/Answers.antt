@@ -6,4 +6,4 @@ use Rattle.parts.proofs.sessions.store_head.Goals as goal
 
 pub returns : goal.returns
 returns c =
-    c.store_u8-4.ensures ∙ rw (c.store_u8-3.ensures, c.from-2.ensures, flag_is, c.store_u8-2.ensures, c.store_u8.ensures, c.from.ensures, flag_is, tab_length)
+    c.store-4.ensures ∙ rw (c.store-3.ensures, c.from-2.ensures, flag_is, c.store-2.ensures, c.store.ensures, c.from.ensures, flag_is, tab_length)

@@ -5,4 +5,4 @@ use Rattle.parts.proofs.sessions.store_mark.Goals as goal
 
 pub returns : goal.returns
 returns c =
-    c.store_u8-2.ensures ∙ rw (c.from.ensures, flag_is, c.store_u8.ensures)
+    c.store-2.ensures ∙ rw (c.from.ensures, flag_is, c.store.ensures)

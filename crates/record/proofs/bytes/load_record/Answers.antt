@@ -8,4 +8,4 @@ pub returns : goal.returns
 unfolding record_at
 returns c =
     let got = c.load_level-level in
-    rw (to_z-of_z w32 got.result (record { sfits = got.type_inv }), got.ensures, c.load_vector-carried.ensures, c.load_u8-key.ensures, c.load_u8-source.ensures, c.load_u8-quality.ensures, c.load_u64-stamp.ensures)
+    rw (to_z-of_z w32 got.result (record { sfits = got.type_inv }), got.ensures, c.load_vector-carried.ensures, c.load-key.ensures, c.load-source.ensures, c.load-quality.ensures, c.load-stamp.ensures)

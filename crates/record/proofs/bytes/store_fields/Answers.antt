@@ -11,4 +11,4 @@ pub returns : goal.returns
 unfolding put_record
 returns c =
     c.store_vector.ensures
-    ∙ rw (add-zero, c.store_u64.ensures, c.store_level.ensures, to_z-of_z w32 c.args.r.level (search rules), c.store_u8-4.ensures, c.store_u8-3.ensures, c.store_u8-2.ensures, c.store_u8.ensures)
+    ∙ rw (add-zero, c.store-5.ensures, c.store_level.ensures, to_z-of_z w32 c.args.r.level (search rules), c.store-4.ensures, c.store-3.ensures, c.store-2.ensures, c.store.ensures)

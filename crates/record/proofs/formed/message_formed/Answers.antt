@@ -9,17 +9,17 @@ use Rattle.record.proofs.formed.message_formed.Goals as goal
 pub returns-then-kind-eq1 : goal.returns-then-kind-eq1
 unfolding message_formed message_at
 returns-then-kind-eq1 c =
-    let is_update = sym c.load_u8-kind.ensures ∙ c.if-kind-eq1.true in
+    let is_update = sym c.load-kind.ensures ∙ c.if-kind-eq1.true in
     rw is_update c.update_formed.ensures
 
 pub returns-then-kind-ne-LAST_KIND : goal.returns-then-kind-ne-LAST_KIND
 unfolding message_formed message_at
 returns-then-kind-ne-LAST_KIND c =
-    let kind = c.load_u8-kind.ensures in
+    let kind = c.load-kind.ensures in
     rw (ne_eqb _ 1 (λ e. c.if-kind-eq1.false (kind ∙ e)), ne_eqb _ 2 (λ e. c.if-kind-ne-LAST_KIND.true (kind ∙ e)))
 
 pub returns : goal.returns
 unfolding message_formed message_at message_lawful
 returns c =
-    let is_beat = sym c.load_u8-kind.ensures ∙ c.if-kind-ne-LAST_KIND.false in
-    rw (is_beat, c.heartbeat_formed.ensures, c.stamp_lawful.ensures, c.load_u64.ensures)
+    let is_beat = sym c.load-kind.ensures ∙ c.if-kind-ne-LAST_KIND.false in
+    rw (is_beat, c.heartbeat_formed.ensures, c.stamp_lawful.ensures, c.load.ensures)

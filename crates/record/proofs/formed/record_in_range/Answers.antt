@@ -9,17 +9,17 @@ use Rattle.record.specs.RecordBytes.{record_at}
 use Rattle.record.specs.Ranges.{record_in_range}
 use Rattle.record.proofs.formed.record_in_range.Goals as goal
 
-pub returns-then-load_u8-ge64 : goal.returns-then-load_u8-ge64
+pub returns-then-load-ge64 : goal.returns-then-load-ge64
 unfolding record_in_range record_at
-returns-then-load_u8-ge64 c = sym (every_fails _ 0 (rw (← c.load_u8.ensures) (le-ltb _ 64 c.if-load_u8-ge64.true)))
+returns-then-load-ge64 c = sym (every_fails _ 0 (rw (← c.load.ensures) (le-ltb _ 64 c.if-load-ge64.true)))
 
-pub returns-then-setting-load_u8 : goal.returns-then-setting-load_u8
+pub returns-then-setting-load : goal.returns-then-setting-load
 unfolding record_in_range record_at
-returns-then-setting-load_u8 c = sym (every_fails _ 1 (rw (← c.load_u8-2.ensures) (le-ltb _ _ c.if-setting-load_u8.true)))
+returns-then-setting-load c = sym (every_fails _ 1 (rw (← c.load-2.ensures) (le-ltb _ _ c.if-setting-load.true)))
 
-pub returns-then-load_u8-ge-QUALITIES : goal.returns-then-load_u8-ge-QUALITIES
+pub returns-then-load-ge-QUALITIES : goal.returns-then-load-ge-QUALITIES
 unfolding record_in_range record_at
-returns-then-load_u8-ge-QUALITIES c = sym (every_fails _ 2 (rw (← c.load_u8-3.ensures) (le-ltb _ 3 c.if-load_u8-ge-QUALITIES.true)))
+returns-then-load-ge-QUALITIES c = sym (every_fails _ 2 (rw (← c.load-3.ensures) (le-ltb _ 3 c.if-load-ge-QUALITIES.true)))
 
 pub returns-then-not-level_lawful : goal.returns-then-not-level_lawful
 unfolding record_in_range record_at
@@ -30,16 +30,16 @@ returns-then-not-level_lawful c =
 
 pub returns-then-not-stamp_lawful : goal.returns-then-not-stamp_lawful
 unfolding record_in_range record_at
-returns-then-not-stamp_lawful c = sym (every_fails _ 4 (rw (← c.load_u64.ensures) (fails c.stamp_lawful.ensures c.if-not-stamp_lawful.true)))
+returns-then-not-stamp_lawful c = sym (every_fails _ 4 (rw (← c.load-4.ensures) (fails c.stamp_lawful.ensures c.if-not-stamp_lawful.true)))
 
 pub returns : goal.returns
 unfolding record_in_range record_at
 returns c =
     let got = c.load_level in
     let known = ap level_lawful (to_z-of_z {w = w32} (record { sfits = got.type_inv }) ∙ got.ensures) in
-    let yes_key = lt-ltb _ 64 (rw c.load_u8.ensures at c.if-load_u8-ge64.false) in
-    let yes_source = lt-ltb _ _ (rw c.load_u8-2.ensures at c.if-setting-load_u8.false) in
-    let yes_quality = lt-ltb _ 3 (rw c.load_u8-3.ensures at c.if-load_u8-ge-QUALITIES.false) in
+    let yes_key = lt-ltb _ 64 (rw c.load.ensures at c.if-load-ge64.false) in
+    let yes_source = lt-ltb _ _ (rw c.load-2.ensures at c.if-setting-load.false) in
+    let yes_quality = lt-ltb _ 3 (rw c.load-3.ensures at c.if-load-ge-QUALITIES.false) in
     let yes_level = sym known ∙ passes c.level_lawful.ensures c.if-not-level_lawful.false in
-    let yes_stamp = rw c.load_u64.ensures at (passes c.stamp_lawful.ensures c.if-not-stamp_lawful.false) in
+    let yes_stamp = rw c.load-4.ensures at (passes c.stamp_lawful.ensures c.if-not-stamp_lawful.false) in
     c.vector_formed.ensures ∙ sym (every_last _ (yes_key, (yes_source, (yes_quality, (yes_level, (yes_stamp, tt))))))

@@ -13,10 +13,10 @@ pub returns-then-partition_of-p : goal.returns-then-partition_of-p
 unfolding record_lawful record_at
 returns-then-partition_of-p c =
     let part = c.partition_of in
-    rw (← c.load_u8.ensures, ← part.ensures, ne_eqb part.result c.args.p c.if-partition_of-p.true)
+    rw (← c.load.ensures, ← part.ensures, ne_eqb part.result c.args.p c.if-partition_of-p.true)
 
 pub returns : goal.returns
 unfolding record_lawful record_at
 returns c =
-    let of-partition : eqb (partition_of (setting_of c.args.setting) (record_at c.args.b.now c.args.at).id.key) c.args.p ≡ true = rw (← c.load_u8.ensures, ← c.partition_of.ensures) (eq-eqb c.partition_of.result c.args.p c.if-partition_of-p.false) in
+    let of-partition : eqb (partition_of (setting_of c.args.setting) (record_at c.args.b.now c.args.at).id.key) c.args.p ≡ true = rw (← c.load.ensures, ← c.partition_of.ensures) (eq-eqb c.partition_of.result c.args.p c.if-partition_of-p.false) in
     rw of-partition c.record_in_range.ensures

@@ -5,11 +5,11 @@ use Rattle.record.specs.RecordBytes.{record_at}
 use Rattle.record.specs.Ranges.{message_lawful}
 use Rattle.record.proofs.formed.update_formed.Goals as goal
 
-pub returns-then-load_u8-i : goal.returns-then-load_u8-i
+pub returns-then-load-i : goal.returns-then-load-i
 unfolding message_lawful record_at
-returns-then-load_u8-i c = rw (ne_eqb _ c.args.i (λ e. c.if-load_u8-i.true (c.load_u8.ensures ∙ e)))
+returns-then-load-i c = rw (ne_eqb _ c.args.i (λ e. c.if-load-i.true (c.load.ensures ∙ e)))
 
 pub returns : goal.returns
 unfolding message_lawful record_at
 returns c =
-    rw (eq-eqb _ c.args.i (sym c.load_u8.ensures ∙ c.if-load_u8-i.false)) c.record_lawful.ensures
+    rw (eq-eqb _ c.args.i (sym c.load.ensures ∙ c.if-load-i.false)) c.record_lawful.ensures

@@ -12,5 +12,5 @@ pub returns : goal.returns
 unfolding put_answer
 returns c =
     let fits : SFits w32 c.from-v.result.level = search rules in
-    c.store_u64.ensures
-    ∙ rw (add-zero, c.store_level.ensures, to_z-of_z fits, c.store_u8-4.ensures, c.store_u8-3.ensures, c.store_u8-2.ensures, c.store_u8.ensures, c.from-v.ensures)
+    c.store-5.ensures
+    ∙ rw (add-zero, c.store_level.ensures, to_z-of_z fits, c.store-4.ensures, c.store-3.ensures, c.store-2.ensures, c.store.ensures, c.from-v.ensures)

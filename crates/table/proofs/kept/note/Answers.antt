@@ -28,4 +28,4 @@ returns c =
     let held : c.held.result ≡ held_in n = c.held.ensures ∙ ap held_in c.node-n.ensures.0 in
     let lent = kept_lent t a.m a.p _ c.kept_at-off.ensures.0 c.requires.1 c.requires.2 in
     kept_back t a.m a.p _ c.kept_at-off.ensures.0 _ (place_noted (setting_in t) n a.k)
-    (c.store_u8.ensures ∙ ap (put 1 _ a.k) (c.later-newest.ensures.0 (setting_in t) ∙ rw (c.node-n.ensures.0, held, c.place-best.ensures, lent)))
+    (c.store.ensures ∙ ap (put 1 _ a.k) (c.later-newest.ensures.0 (setting_in t) ∙ rw (c.node-n.ensures.0, held, c.place-best.ensures, lent)))

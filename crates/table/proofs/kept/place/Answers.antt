@@ -3,4 +3,4 @@ use mathlib.Core.Path.{◌∙◌}
 use Rattle.table.proofs.kept.place.Goals as goal
 
 pub returns : goal.returns
-returns c = c.load_u8.ensures ∙ rw c.kept.ensures.0
+returns c = c.load.ensures ∙ rw c.kept.ensures.0

@@ -1,8 +1,8 @@
--- `codec::load_u32` meets its contract: four bytes' number fits 32 bits.
+-- `u32::load` meets its contract: four bytes' number fits 32 bits.
 use native.Mathlib.Omega.{arith}
 use Rattle.codec.specs.Le.{span}
 use Rattle.codec.proofs.Le.{load_lt}
-use Rattle.codec.proofs.load_u32.Goals as goal
+use Rattle.codec.proofs.U32Number.load.Goals as goal
 
 pub overflow_cast-result : goal.overflow_cast-result
 unfolding span
