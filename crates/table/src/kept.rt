@@ -30,8 +30,7 @@ fn note(t: &mut [u8], m: usize, p: usize, k: usize)
     let last = nodes::held(n) as usize - 1;
     let newest = search::later(n, last, best) as u8;
     let off = places::kept_at(m, p);
-    let end = off + places::KEPT;
-    newest.store(&mut t[off..end], k);
+    newest.store(&mut t[off..off + places::KEPT], k);
 }
 
 // The message that node (m, p) made or took in.

@@ -50,8 +50,7 @@ pub fn set_session(t: &mut [u8], s: usize, x: Session)
     ensures { t.new ≡ put_change (SetSession s (as_session x)) t.old }
 {
     let off = places::session_at(s);
-    let end = off + places::SESSION;
-    sessions::store(&mut t[off..end], x);
+    sessions::store(&mut t[off..off + places::SESSION], x);
 }
 
 pub fn set_clock(t: &mut [u8], m: usize, p: usize, time: u64)
@@ -59,8 +58,7 @@ pub fn set_clock(t: &mut [u8], m: usize, p: usize, time: u64)
     ensures { t.new ≡ put_change (SetClock m p time) t.old }
 {
     let off = places::site_at(m);
-    let end = off + places::SITE;
-    sites::set_clock(&mut t[off..end], p, time);
+    sites::set_clock(&mut t[off..off + places::SITE], p, time);
 }
 
 // Node (m, p) makes a message.
@@ -70,8 +68,7 @@ pub fn publish(t: &mut [u8], m: usize, p: usize, x: Letter)
 {
     let n = u8::load(t, 0) as usize - 1;
     let off = places::site_at(m);
-    let end = off + places::SITE;
-    sites::publish(&mut t[off..end], n, m, p, x);
+    sites::publish(&mut t[off..off + places::SITE], n, m, p, x);
     kept::note_message(t, m, p, x);
 }
 
@@ -81,8 +78,7 @@ fn take_in(t: &mut [u8], i: usize, m: usize, p: usize, x: Letter)
     ensures { t.new ≡ on_site m (on_node p (received i (as_message x))) t.old }
 {
     let off = places::site_at(m);
-    let end = off + places::SITE;
-    sites::receive(&mut t[off..end], i, p, x);
+    sites::receive(&mut t[off..off + places::SITE], i, p, x);
 }
 
 // The message in front leaves channel d of site i at partition p.
@@ -91,8 +87,7 @@ fn take_off(t: &mut [u8], i: usize, p: usize, d: usize)
     ensures { t.new ≡ on_site i (on_channel p d popped) t.old }
 {
     let off = places::site_at(i);
-    let end = off + places::SITE;
-    sites::pop(&mut t[off..end], p, d);
+    sites::pop(&mut t[off..off + places::SITE], p, d);
 }
 
 // Node (m, p) takes the message off the front of the channel from site i.

@@ -58,8 +58,7 @@ pub fn session(t: &[u8], s: u8) -> &[u8]
     ensures { (result.now ≡ session_of t.now s) × (length result.now ≡ 128) }
 {
     let off = session_at(s as usize);
-    let end = off + SESSION;
-    &t[off..end]
+    &t[off..off + SESSION]
 }
 
 // The part of site m: its nodes and its outgoing channels.
@@ -68,8 +67,7 @@ pub fn site(t: &[u8], m: u8) -> &[u8]
     ensures { (result.now ≡ site_of t.now m) × (length result.now ≡ 13056) }
 {
     let off = site_at(m as usize);
-    let end = off + SITE;
-    &t[off..end]
+    &t[off..off + SITE]
 }
 
 pub fn node(t: &[u8], m: u8, p: u8) -> &[u8]
@@ -93,8 +91,7 @@ pub fn kept(t: &[u8], m: u8, p: u8) -> &[u8]
     ensures { (result.now ≡ kept_of t.now m p) × (length result.now ≡ 64) }
 {
     let off = kept_at(m as usize, p as usize);
-    let end = off + KEPT;
-    &t[off..end]
+    &t[off..off + KEPT]
 }
 
 // Node p of a site's part.
@@ -103,8 +100,7 @@ pub fn node_of(site: &[u8], p: u8) -> &[u8]
     ensures { (result.now ≡ node_of site.now p) × (length result.now ≡ 1856) }
 {
     let off = node_at(p as usize);
-    let end = off + NODE;
-    &site[off..end]
+    &site[off..off + NODE]
 }
 
 // The channel of partition p to the place d, of a site's part.
@@ -113,6 +109,5 @@ pub fn channel_of(site: &[u8], p: u8, d: usize) -> &[u8]
     ensures { (result.now ≡ channel_of site.now p d) × (length result.now ≡ 464) }
 {
     let off = channel_at(p as usize, d);
-    let end = off + CHANNEL;
-    &site[off..end]
+    &site[off..off + CHANNEL]
 }

@@ -18,8 +18,7 @@ pub fn set_clock(site: &mut [u8], p: usize, t: u64)
     ensures { site.new ≡ on_node p (clock_set t) site.old }
 {
     let off = places::node_at(p);
-    let end = off + places::NODE;
-    nodes::set_clock(&mut site[off..end], t);
+    nodes::set_clock(&mut site[off..off + places::NODE], t);
 }
 
 // The message is of the site's own node p, and m is the site's number.
@@ -28,8 +27,7 @@ fn publish_node(site: &mut [u8], m: usize, p: usize, x: Letter)
     ensures { site.new ≡ on_node p (published m (as_message x)) site.old }
 {
     let off = places::node_at(p);
-    let end = off + places::NODE;
-    nodes::publish(&mut site[off..end], m, x);
+    nodes::publish(&mut site[off..off + places::NODE], m, x);
 }
 
 // The message is of site i.
@@ -38,8 +36,7 @@ pub fn receive(site: &mut [u8], i: usize, p: usize, x: Letter)
     ensures { site.new ≡ on_node p (received i (as_message x)) site.old }
 {
     let off = places::node_at(p);
-    let end = off + places::NODE;
-    nodes::receive(&mut site[off..end], i, x);
+    nodes::receive(&mut site[off..off + places::NODE], i, x);
 }
 
 pub fn pop(site: &mut [u8], p: usize, d: usize)
@@ -47,8 +44,7 @@ pub fn pop(site: &mut [u8], p: usize, d: usize)
     ensures { site.new ≡ on_channel p d popped site.old }
 {
     let off = places::channel_at(p, d);
-    let end = off + places::CHANNEL;
-    channels::pop(&mut site[off..end]);
+    channels::pop(&mut site[off..off + places::CHANNEL]);
 }
 
 fn push(site: &mut [u8], m: u8, p: usize, d: usize, x: Letter)
@@ -56,8 +52,7 @@ fn push(site: &mut [u8], m: u8, p: usize, d: usize, x: Letter)
     ensures { site.new ≡ on_channel p d (pushed m (as_message x)) site.old }
 {
     let off = places::channel_at(p, d);
-    let end = off + places::CHANNEL;
-    channels::push(&mut site[off..end], m, x);
+    channels::push(&mut site[off..off + places::CHANNEL], m, x);
 }
 
 // A message of site m goes into the first n channels of partition p.
