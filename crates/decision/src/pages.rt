@@ -1,40 +1,39 @@
 // The decisions of a page: BEGIN, READ and END. Each takes the session, tests it from top to bottom as R60 has it, and decides.
-ghost use Rattle.std.specs.Prelude.{◌≡◌, ◌≤◌, ◌<◌, T};
+ghost use Rattle.std.specs.Prelude.{◌≡◌, ◌≤◌, ◌<◌};
 ghost use Rattle.protocol.specs.Event.{BEGIN, READ, END};
-ghost use Rattle.table.specs.Parts.{Long};
 ghost use Rattle.table.specs.Decode.{decode};
-ghost use Rattle.lawful.specs.WellFormed.{well_formed};
 ghost use Rattle.outcome.specs.Marks.{keys_on};
 ghost use Rattle.outcome.specs.Decided.{decided_of};
 ghost use Rattle.decision.specs.Answered.{answered};
 
 use crate::lookup;
+use lawful::Table;
 use outcome::{Decided, answers, keeping, marks, raising};
 use protocol::{Answer, Reason};
 
 // BEGIN of a page of the first `count` keys, with the node of partition p as its coordinator.
-pub fn begin(t: &[u8], s: u8, p: u8, count: u8, keys: [u8; 8]) -> Result<Decided, Reason>
-    requires { Long t.now × T (well_formed t.now) × (s < 16) × (p < 4) × (count ≤ 8) }
-    ensures { decided_of result ≡ answered (decode t.now) (BEGIN s p (keys_on keys count)) }
+pub fn begin(table: Table, s: u8, p: u8, count: u8, keys: [u8; 8]) -> Result<Decided, Reason>
+    requires { (s < 16) × (p < 4) × (count ≤ 8) }
+    ensures { decided_of result ≡ answered (decode table.entry.bytes.now) (BEGIN s p (keys_on keys count)) }
 {
-    let x = lookup::opened(t, s)?;
+    let x = lookup::opened(table, s)?;
     if x.paged {
         return Err(Reason::PageOpen);
     }
     if !marks::distinct(keys, count as usize) {
         return Err(Reason::KeyTwice);
     }
-    let coordinator = lookup::heard(t, x.site, p);
+    let coordinator = lookup::heard(table, x.site, p);
     Ok(answers::kept(Answer::Done, s, keeping::begun(x, coordinator, keys, count)))
 }
 
 // R47, READ of key k: every entry of the node's vector is at least the page's, and then the newest candidate is shown. Where one is not it waits, for the lowest
 // such site (R51): no site is spared.
-pub fn read(t: &[u8], s: u8, k: u8) -> Result<Decided, Reason>
-    requires { Long t.now × T (well_formed t.now) × (s < 16) }
-    ensures { decided_of result ≡ answered (decode t.now) (READ s k) }
+pub fn read(table: Table, s: u8, k: u8) -> Result<Decided, Reason>
+    requires { s < 16 }
+    ensures { decided_of result ≡ answered (decode table.entry.bytes.now) (READ s k) }
 {
-    let x = lookup::opened(t, s)?;
+    let x = lookup::opened(table, s)?;
     if !x.paged {
         return Err(Reason::NoPageOpen);
     }
@@ -43,19 +42,19 @@ pub fn read(t: &[u8], s: u8, k: u8) -> Result<Decided, Reason>
     }
     let m = x.site;
     let page = x.snapshot;
-    let p = lookup::partition(t, k);
-    let heard = lookup::heard(t, m, p);
+    let p = lookup::partition(table, k);
+    let heard = lookup::heard(table, m, p);
     answers::hears(page, heard, None)?;
-    let found = lookup::newest(t, m, p, k, page);
+    let found = lookup::newest(table, m, p, k, page);
     Ok(answers::kept(answers::shown(found), s, keeping::read_on(x, k, found)))
 }
 
 // R48, END of the page: raises the session by what the page gathered, which has no stamp of its own.
-pub fn end(t: &[u8], s: u8) -> Result<Decided, Reason>
-    requires { Long t.now × T (well_formed t.now) × (s < 16) }
-    ensures { decided_of result ≡ answered (decode t.now) (END s) }
+pub fn end(table: Table, s: u8) -> Result<Decided, Reason>
+    requires { s < 16 }
+    ensures { decided_of result ≡ answered (decode table.entry.bytes.now) (END s) }
 {
-    let mut x = lookup::opened(t, s)?;
+    let mut x = lookup::opened(table, s)?;
     if !x.paged {
         return Err(Reason::NoPageOpen);
     }

@@ -3,7 +3,7 @@
 
 #![tactic(auto)]
 
-ghost use Rattle.std.specs.Prelude.{◌≡◌, ◌&&◌, ◌<◌, leb, ltb};
+ghost use Rattle.std.specs.Prelude.{T, ◌≡◌, ◌&&◌, ◌<◌, leb, ltb};
 ghost use Rattle.codec.specs.Below.{all_below};
 ghost use Rattle.protocol.specs.Meaning.{setting_of};
 ghost use Rattle.table.specs.Parts.{Long, Whole, session_of, site_of, node_of, kept_of};
@@ -34,6 +34,14 @@ pub fn setting_lawful(setting: Setting) -> bool
 }
 
 // A loop, as in `sites_formed`: with `all` the check of a table is slower by a twentieth.
+// A table that is well formed, lent for reading.
+#[derive(Clone, Copy)]
+pub struct Table<'a> {
+    pub bytes: &'a [u8],
+    ghost whole: { Whole bytes.now },
+    ghost formed: { T (well_formed bytes.now) },
+}
+
 fn sessions_formed(t: &[u8], setting: Setting) -> bool
     requires { Long t.now }
     ensures { result ≡ all_below 16 (λ s. session_formed (setting_of setting) (session_of t.now s)) }

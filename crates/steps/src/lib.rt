@@ -16,6 +16,7 @@ ghost use Rattle.steps.specs.Step.{gives, step_on, told};
 
 use decision::{pages, sessions, writes};
 use event::Event;
+use lawful::Table;
 use outcome::Decided;
 use protocol::{Answer, Reason};
 
@@ -24,39 +25,39 @@ pub mod effects;
 pub mod runs;
 
 // What the protocol decides of an event whose fields are in range.
-pub fn decide(t: &[u8], event: Event) -> Result<Decided, Reason>
-    requires { Whole t.now × T (well_formed t.now) × (met (ranges (setting_in t.now) (as_event event)) ≡ true) }
-    ensures { decided_of result ≡ answered (decode t.now) (as_event event) }
+pub fn decide(table: Table, event: Event) -> Result<Decided, Reason>
+    requires { met (ranges (setting_in table.bytes.now) (as_event event)) ≡ true }
+    ensures { decided_of result ≡ answered (decode table.entry.bytes.now) (as_event event) }
 {
     match event {
-        Event::Open { session, site } => sessions::open_session(t, session, site),
-        Event::Close { session } => sessions::close_session(t, session),
+        Event::Open { session, site } => sessions::open_session(table, session, site),
+        Event::Close { session } => sessions::close_session(table, session),
         Event::Clock {
             site,
             partition,
             time,
-        } => writes::clock(t, site, partition, time),
-        Event::Get { session, key } => sessions::get(t, session, key),
+        } => writes::clock(table, site, partition, time),
+        Event::Get { session, key } => sessions::get(table, session, key),
         Event::Put {
             session,
             key,
             quality,
             level,
-        } => writes::put(t, session, key, quality, level),
+        } => writes::put(table, session, key, quality, level),
         Event::Begin {
             session,
             partition,
             count,
             keys,
-        } => pages::begin(t, session, partition, count, keys),
-        Event::Read { session, key } => pages::read(t, session, key),
-        Event::End { session } => pages::end(t, session),
-        Event::Beat { site, partition } => writes::beat(t, site, partition),
+        } => pages::begin(table, session, partition, count, keys),
+        Event::Read { session, key } => pages::read(table, session, key),
+        Event::End { session } => pages::end(table, session),
+        Event::Beat { site, partition } => writes::beat(table, site, partition),
         Event::Deliver {
             from,
             site,
             partition,
-        } => writes::deliver(t, from, site, partition),
+        } => writes::deliver(table, from, site, partition),
     }
 }
 
@@ -66,7 +67,7 @@ fn served(t: &mut [u8], e: &[u8]) -> Result<Answer, Reason>
     ensures { gives (told result) t.new ≡ step_on t.old e.now }
 {
     let event = event::read(e, table::setting(t))?;
-    let decided = decide(t, event)?;
+    let decided = decide(Table { bytes: t }, event)?;
     effects::carry_out(t, decided.effect);
     Ok(decided.answer)
 }

@@ -11,7 +11,6 @@ use Rattle.codec.proofs.Tabulate.{tab_length}
 use Rattle.codec.proofs.Tests.{yes_eqb}
 use Rattle.protocol.specs.Needs.{ranges}
 use Rattle.protocol.proofs.Judge.{Met}
-use Rattle.table.proofs.Parts.{whole_long}
 use Rattle.lawful.proofs.Facts.{formed}
 use Rattle.steps.proofs.Fields.{ranged}
 use Rattle.steps.proofs.decide.Goals as goal
@@ -19,65 +18,65 @@ use Rattle.steps.proofs.decide.Goals as goal
 pub open_session-requires : goal.open_session-requires
 unfolding ranges
 open_session-requires c =
-    let k = ranged c.args.t.now c.args.event _ c.in-Open.is c.requires.2 in
-    (whole_long c.args.t.now c.requires.0, c.requires.1, ltb_yes k.1.0)
+    let k = ranged c.args.table.bytes.now c.args.event _ c.in-Open.is c.requires in
+    ltb_yes k.1.0
 
 pub close_session-requires : goal.close_session-requires
 unfolding ranges
 close_session-requires c =
-    let k = ranged c.args.t.now c.args.event _ c.in-Close.is c.requires.2 in
-    (whole_long c.args.t.now c.requires.0, c.requires.1, ltb_yes k.0)
+    let k = ranged c.args.table.bytes.now c.args.event _ c.in-Close.is c.requires in
+    ltb_yes k.0
 
 pub clock-requires : goal.clock-requires
 unfolding ranges
 clock-requires c =
-    let k = ranged c.args.t.now c.args.event _ c.in-Clock.is c.requires.2 in
-    (whole_long c.args.t.now c.requires.0, c.requires.1, ltb_yes k.0, ltb_yes k.1.0)
+    let k = ranged c.args.table.bytes.now c.args.event _ c.in-Clock.is c.requires in
+    (ltb_yes k.0, ltb_yes k.1.0)
 
 pub get-requires : goal.get-requires
 unfolding ranges
 get-requires c =
-    let k = ranged c.args.t.now c.args.event _ c.in-Get.is c.requires.2 in
-    (c.requires.0, c.requires.1, ltb_yes k.0, ltb_yes k.1.0)
+    let k = ranged c.args.table.bytes.now c.args.event _ c.in-Get.is c.requires in
+    (ltb_yes k.0, ltb_yes k.1.0)
 
 pub put-requires : goal.put-requires
 unfolding ranges
 put-requires c =
-    let k = ranged c.args.t.now c.args.event _ c.in-Put.is c.requires.2 in
-    (whole_long c.args.t.now c.requires.0, c.requires.1, ltb_yes k.0)
+    let k = ranged c.args.table.bytes.now c.args.event _ c.in-Put.is c.requires in
+    ltb_yes k.0
 
 pub begin-requires : goal.begin-requires
 unfolding ranges
 begin-requires c =
-    let k = ranged c.args.t.now c.args.event _ c.in-Begin.is c.requires.2 in
-    let F = formed c.args.t.now c.requires.1 in
+    let k = ranged c.args.table.bytes.now c.args.event _ c.in-Begin.is c.requires in
+    let F = formed c.args.table.bytes.now c.args.table.formed in
     let p = ltb_yes k.0 in
     let ks = tabulate c.in-Begin.count (λ i. get_or c.in-Begin.keys i 0) in
     let few : length ks ≤ 8 = leb_yes (and_yes (ltb 0 (length ks)) (leb (length ks) 8) k.1.1.0).1 in
-    (whole_long c.args.t.now c.requires.0, c.requires.1, ltb_yes k.1.0, omega arith, omega (arith, few, tab_length c.in-Begin.count (λ i. get_or c.in-Begin.keys i 0)))
+    (ltb_yes k.1.0, omega arith, omega (arith, few, tab_length c.in-Begin.count (λ i. get_or c.in-Begin.keys i 0)))
 
 pub read-requires : goal.read-requires
 unfolding ranges
 read-requires c =
-    let k = ranged c.args.t.now c.args.event _ c.in-Read.is c.requires.2 in
-    (whole_long c.args.t.now c.requires.0, c.requires.1, ltb_yes k.0)
+    let k = ranged c.args.table.bytes.now c.args.event _ c.in-Read.is c.requires in
+    ltb_yes k.0
 
 pub end-requires : goal.end-requires
 unfolding ranges
 end-requires c =
-    let k = ranged c.args.t.now c.args.event _ c.in-End.is c.requires.2 in
-    (whole_long c.args.t.now c.requires.0, c.requires.1, ltb_yes k.0)
+    let k = ranged c.args.table.bytes.now c.args.event _ c.in-End.is c.requires in
+    ltb_yes k.0
 
 pub beat-requires : goal.beat-requires
 unfolding ranges
 beat-requires c =
-    let k = ranged c.args.t.now c.args.event _ c.in-Beat.is c.requires.2 in
-    (whole_long c.args.t.now c.requires.0, c.requires.1, ltb_yes k.0, ltb_yes k.1.0)
+    let k = ranged c.args.table.bytes.now c.args.event _ c.in-Beat.is c.requires in
+    (ltb_yes k.0, ltb_yes k.1.0)
 
 pub deliver-requires : goal.deliver-requires
 unfolding ranges
 deliver-requires c =
-    let k = ranged c.args.t.now c.args.event _ c.in-Deliver.is c.requires.2 in
+    let k = ranged c.args.table.bytes.now c.args.event _ c.in-Deliver.is c.requires in
     let a = c.in-Deliver in
-    let other = and_yes (ltb a.from (setting_in c.args.t.now).sites) (not (eqb a.from a.site)) k.1.1.0 in
-    (whole_long c.args.t.now c.requires.0, c.requires.1, ltb_yes other.0, ltb_yes k.0, λ z. T_not (eqb a.from a.site) (yes_eqb a.from a.site z) other.1, ltb_yes k.1.0)
+    let other = and_yes (ltb a.from (setting_in c.args.table.bytes.now).sites) (not (eqb a.from a.site)) k.1.1.0 in
+    (ltb_yes other.0, ltb_yes k.0, λ z. T_not (eqb a.from a.site) (yes_eqb a.from a.site z) other.1, ltb_yes k.1.0)

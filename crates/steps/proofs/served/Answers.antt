@@ -33,7 +33,7 @@ decide-requires c =
     let v = c.in_ok-event.ensures.ok in
     let f = test_holds a.t.now a.e.now _ c.setting.ensures v.2 in
     let m = and_yes (unused_zero a.e.now) (met (ranges (setting_in a.t.now) (event_of a.e.now))) (is_yes _ f) in
-    (c.requires.0, c.requires.1, rw v.0 (yes_is (met (ranges (setting_in a.t.now) (event_of a.e.now))) m.1))
+    rw v.0 (yes_is (met (ranges (setting_in a.t.now) (event_of a.e.now))) m.1)
 
 pub returns-in_err-decided : goal.returns-in_err-decided
 unfolding put_changes

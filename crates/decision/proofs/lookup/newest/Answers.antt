@@ -12,14 +12,14 @@ use Rattle.decision.proofs.lookup.newest.Goals as goal
 pub newest-requires : goal.newest-requires
 newest-requires c =
     let a = c.args in
-    let t = a.t.now in
+    let t = a.table.bytes.now in
     let here = sym c.node.ensures.0 in (
       search rules,
-      subst (λ n. held_in n ≤ 32) here (node_held t c.requires.1 a.m a.p c.requires.2 c.requires.3),
-      subst (λ n. (k : ℕ) → k < held_in n → (record_at n (slot_at k)).id.source < 4) here (node_source t c.requires.1 a.m a.p c.requires.2 c.requires.3),
+      subst (λ n. held_in n ≤ 32) here (node_held t c.args.table.formed a.m a.p c.requires.0 c.requires.1),
+      subst (λ n. (k : ℕ) → k < held_in n → (record_at n (slot_at k)).id.source < 4) here (node_source t c.args.table.formed a.m a.p c.requires.0 c.requires.1),
     )
 
 pub returns : goal.returns
 returns c =
-    let t = c.args.t.now in
+    let t = c.args.table.bytes.now in
     (rw (found-newest, sym c.node.ensures.0) (c.newest.ensures.0 (setting_in t)), c.newest.ensures.1)

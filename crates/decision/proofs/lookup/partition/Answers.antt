@@ -7,11 +7,11 @@ use Rattle.decision.proofs.lookup.partition.Goals as goal
 
 pub partition_of-requires : goal.partition_of-requires
 partition_of-requires c =
-    omega (arith, ap (λ d. d.partitions) c.setting-setting.ensures, parts_some c.args.t.now c.requires.1)
+    omega (arith, ap (λ d. d.partitions) c.setting-setting.ensures, parts_some c.args.table.bytes.now c.args.table.formed)
 
 pub returns : goal.returns
 returns c =
-    let some = parts_some c.args.t.now c.requires.1 in
-    let most = parts_at_most c.args.t.now c.requires.1 in
+    let some = parts_some c.args.table.bytes.now c.args.table.formed in
+    let most = parts_at_most c.args.table.bytes.now c.args.table.formed in
     let less = mod-lt c.args.k some in
     rw (c.partition_of.ensures, ap (λ d. d.partitions) c.setting-setting.ensures) (refl, omega arith)

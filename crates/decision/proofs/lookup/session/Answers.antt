@@ -14,16 +14,16 @@ use Rattle.decision.proofs.lookup.session.Goals as goal
 pub load-requires : goal.load-requires
 load-requires c =
     let a = c.args in
-    (search rules, subst (λ b. load 1 b 3 ≤ 8) (sym c.session.ensures.0) (session-marks a.t.now c.requires.1 a.s c.requires.2))
+    (search rules, subst (λ b. load 1 b 3 ≤ 8) (sym c.session.ensures.0) (session-marks a.table.bytes.now c.args.table.formed a.s c.requires))
 
 pub returns : goal.returns
 returns c =
     let a = c.args in
-    let t = a.t.now in
+    let t = a.table.bytes.now in
     let told = c.load.ensures ∙ ap session_in c.session.ensures.0 in
-    let there = here_told c.load.result t c.requires.1 a.s c.requires.2 told in (
+    let there = here_told c.load.result t c.args.table.formed a.s c.requires told in (
       told,
-      subst (λ n. n ≤ 8) (sym (count_told c.load.result (session_of t a.s) told)) (session-marks t c.requires.1 a.s c.requires.2),
-      λ o. let here = there o in let F = formed t c.requires.1 in omega (arith, F.sites),
+      subst (λ n. n ≤ 8) (sym (count_told c.load.result (session_of t a.s) told)) (session-marks t c.args.table.formed a.s c.requires),
+      λ o. let here = there o in let F = formed t c.args.table.formed in omega (arith, F.sites),
       there,
     )
