@@ -16,7 +16,8 @@ ghost use Rattle.decision.specs.Opened.{Opened};
 
 use lawful::Table;
 use parts::{Session, nodes, sessions};
-use protocol::{Reason, limits};
+use protocol::Reason;
+use protocol::limits::{self, NodeAt};
 use record::Record;
 use search::Wanted;
 use table::places;
@@ -52,28 +53,37 @@ pub fn partition(table: Table, k: u8) -> u8
     limits::partition_of(k, setting.partitions)
 }
 
-// What the node of site m and partition p has heard.
-pub fn heard(table: Table, m: u8, p: u8) -> Vector
-    requires { (m < 4) × (p < 4) }
-    ensures { as_vec result ≡ heard_in (node_of (site_of table.entry.bytes.now m) p) }
+// The node of a session's site that holds a key.
+pub fn node_of(table: Table, m: u8, k: u8) -> NodeAt
+    requires { m < 4 }
+    ensures { (result.site ≡ m) × (result.partition ≡ partition_of (setting_in table.entry.bytes.now) k) }
 {
-    nodes::heard(places::node(table.bytes, m, p))
+    NodeAt {
+        site: m,
+        partition: partition(table, k),
+    }
+}
+
+// What the node has heard.
+pub fn heard(table: Table, node: NodeAt) -> Vector
+    ensures { as_vec result ≡ heard_in (node_of (site_of table.entry.bytes.now node.site) node.partition) }
+{
+    nodes::heard(places::node(table.bytes, node))
 }
 
 // The newest record there of the key that carries no more than the page's vector: all records of the node are looked at.
-pub fn newest(table: Table, m: u8, p: u8, key: u8, snapshot: Vector) -> Option<Record>
-    requires { (m < 4) × (p < 4) }
-    ensures { (found_of result ≡ found (setting_in table.entry.bytes.now) (fits_page key (as_vec snapshot)) (store_in (node_of (site_of table.entry.bytes.now m) p))) × Sited result }
+pub fn newest(table: Table, node: NodeAt, key: u8, snapshot: Vector) -> Option<Record>
+    ensures { (found_of result ≡ found (setting_in table.entry.bytes.now) (fits_page key (as_vec snapshot)) (store_in (node_of (site_of table.entry.bytes.now node.site) node.partition))) × Sited result }
 {
     let w = Wanted { key, snapshot };
-    search::newest(places::node(table.bytes, m, p), w)
+    search::newest(places::node(table.bytes, node), w)
 }
 
 // The newest record there of the key: nothing is searched, its place is kept.
-pub fn at_hand(table: Table, m: u8, p: u8, key: u8) -> Option<Record>
-    requires { (m < 4) × (p < 4) × (key < 64) }
-    ensures { (found_of result ≡ found (setting_in table.entry.bytes.now) (of_key key) (store_in (node_of (site_of table.entry.bytes.now m) p))) × Sited result }
+pub fn at_hand(table: Table, node: NodeAt, key: u8) -> Option<Record>
+    requires { key < 64 }
+    ensures { (found_of result ≡ found (setting_in table.entry.bytes.now) (of_key key) (store_in (node_of (site_of table.entry.bytes.now node.site) node.partition))) × Sited result }
 {
-    let place = table::kept::place(table.bytes, m, p, key as usize);
-    search::found_at(places::node(table.bytes, m, p), place)
+    let place = table::kept::place(table.bytes, node, key as usize);
+    search::found_at(places::node(table.bytes, node), place)
 }

@@ -9,6 +9,7 @@ ghost use Rattle.decision.specs.Answered.{answered};
 use crate::lookup;
 use lawful::Table;
 use outcome::{Decided, answers, keeping, marks, raising};
+use protocol::limits::NodeAt;
 use protocol::{Answer, Reason};
 
 // BEGIN of a page of the first `count` keys, with the node of partition p as its coordinator.
@@ -23,7 +24,11 @@ pub fn begin(table: Table, s: u8, p: u8, count: u8, keys: [u8; 8]) -> Result<Dec
     if !marks::distinct(keys, count as usize) {
         return Err(Reason::KeyTwice);
     }
-    let coordinator = lookup::heard(table, x.site, p);
+    let node = NodeAt {
+        site: x.site,
+        partition: p,
+    };
+    let coordinator = lookup::heard(table, node);
     Ok(answers::kept(Answer::Done, s, keeping::begun(x, coordinator, keys, count)))
 }
 
@@ -40,12 +45,11 @@ pub fn read(table: Table, s: u8, k: u8) -> Result<Decided, Reason>
     if !marks::awaited(x.keys, x.marks, x.count as usize, k) {
         return Err(Reason::KeyNotAwaited);
     }
-    let m = x.site;
     let page = x.snapshot;
-    let p = lookup::partition(table, k);
-    let heard = lookup::heard(table, m, p);
+    let node = lookup::node_of(table, x.site, k);
+    let heard = lookup::heard(table, node);
     answers::hears(page, heard, None)?;
-    let found = lookup::newest(table, m, p, k, page);
+    let found = lookup::newest(table, node, k, page);
     Ok(answers::kept(answers::shown(found), s, keeping::read_on(x, k, found)))
 }
 

@@ -40,10 +40,9 @@ pub fn get(table: Table, s: u8, k: u8) -> Result<Decided, Reason>
     if x.paged {
         return Err(Reason::PageOpen);
     }
-    let m = x.site;
-    let p = lookup::partition(table, k);
-    let heard = lookup::heard(table, m, p);
-    answers::hears(x.vec, heard, Some(m))?;
-    let found = lookup::at_hand(table, m, p, k);
+    let node = lookup::node_of(table, x.site, k);
+    let heard = lookup::heard(table, node);
+    answers::hears(x.vec, heard, Some(x.site))?;
+    let found = lookup::at_hand(table, node, k);
     Ok(answers::kept(answers::shown(found), s, raising::raised_by(x, found)))
 }

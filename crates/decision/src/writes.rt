@@ -19,81 +19,70 @@ use lawful::Table;
 use outcome::{Decided, Effect, answers};
 use parts::{channels, nodes};
 use protocol::Reason;
+use protocol::limits::NodeAt;
 use record::bytes;
 use table::places;
 use vector::Vector;
 
-// What node (m, p) has heard of its own site: its latest stamp.
-fn own(table: Table, m: u8, p: u8) -> u64
-    requires { (m < 4) × (p < 4) }
-    ensures { result ≡ heard_in (node_of (site_of table.entry.bytes.now m) p) m }
+// What the node has heard of its own site: its latest stamp.
+fn own(table: Table, node: NodeAt) -> u64
+    ensures { result ≡ heard_in (node_of (site_of table.entry.bytes.now node.site) node.partition) node.site }
 {
-    let heard = lookup::heard(table, m, p).entries;
-    heard[m as usize]
+    let heard = lookup::heard(table, node).entries;
+    heard[node.site as usize]
 }
 
-// Whether node (m, p) holds fewer than 32 records.
-fn has_slot(table: Table, m: u8, p: u8) -> bool
-    requires { (m < 4) × (p < 4) }
-    ensures { result ≡ ltb (held_in (node_of (site_of table.entry.bytes.now m) p)) 32 }
+// Whether the node holds fewer than 32 records.
+fn has_slot(table: Table, node: NodeAt) -> bool
+    ensures { result ≡ ltb (held_in (node_of (site_of table.entry.bytes.now node.site) node.partition)) 32 }
 {
-    nodes::held(places::node(table.bytes, m, p)) < 32
+    nodes::held(places::node(table.bytes, node)) < 32
 }
 
-// Whether each outgoing channel of node (m, p) holds fewer than 8 messages.
-fn has_room(table: Table, m: u8, p: u8) -> bool
-    requires { (m < 4) × (p < 4) }
-    ensures { result ≡ all_below (load 1 table.entry.bytes.now 0 - 1) (λ d. ltb (wait_in (channel_of (site_of table.entry.bytes.now m) p d)) 8) }
+// Whether each outgoing channel of the node holds fewer than 8 messages.
+fn has_room(table: Table, node: NodeAt) -> bool
+    ensures { result ≡ all_below (load 1 table.entry.bytes.now 0 - 1) (λ d. ltb (wait_in (channel_of (site_of table.entry.bytes.now node.site) node.partition d)) 8) }
 {
     let n = u8::load(table.bytes, 0) as usize - 1;
     let mut all = true;
     for d in 0..n {
-        all &= channels::waiting(places::channel(table.bytes, m, p, d)) < 8;
+        all &= channels::waiting(places::channel(table.bytes, node, d)) < 8;
     }
     all
 }
 
 // R43: an equal time is done.
-pub fn clock(table: Table, m: u8, p: u8, time: u64) -> Result<Decided, Reason>
-    requires { (m < load 1 table.bytes.now 0) × (p < load 1 table.bytes.now 1) }
-    ensures { decided_of result ≡ answered (decode table.entry.bytes.now) (CLOCK m p time) }
+pub fn clock(table: Table, node: NodeAt, time: u64) -> Result<Decided, Reason>
+    requires { (node.site < load 1 table.bytes.now 0) × (node.partition < load 1 table.bytes.now 1) }
+    ensures { decided_of result ≡ answered (decode table.entry.bytes.now) (CLOCK node.site node.partition time) }
 {
-    if time < nodes::clock(places::node(table.bytes, m, p)) {
+    if time < nodes::clock(places::node(table.bytes, node)) {
         return Err(Reason::TimeBeforeClock);
     }
-    Ok(answers::done(Effect::Clock {
-        site: m,
-        partition: p,
-        time,
-    }))
+    Ok(answers::done(Effect::Clock { node, time }))
 }
 
 // R49: where the clock is not greater than its own entry nothing is sent, and no room is asked for.
-pub fn beat(table: Table, m: u8, p: u8) -> Result<Decided, Reason>
-    requires { (m < load 1 table.bytes.now 0) × (p < load 1 table.bytes.now 1) }
-    ensures { decided_of result ≡ answered (decode table.entry.bytes.now) (BEAT m p) }
+pub fn beat(table: Table, node: NodeAt) -> Result<Decided, Reason>
+    requires { (node.site < load 1 table.bytes.now 0) × (node.partition < load 1 table.bytes.now 1) }
+    ensures { decided_of result ≡ answered (decode table.entry.bytes.now) (BEAT node.site node.partition) }
 {
-    let stamp = nodes::clock(places::node(table.bytes, m, p));
-    if stamp <= own(table, m, p) {
+    let stamp = nodes::clock(places::node(table.bytes, node));
+    if stamp <= own(table, node) {
         return Ok(answers::done(Effect::Nothing));
     }
-    if !has_room(table, m, p) {
+    if !has_room(table, node) {
         return Err(Reason::ChannelFull);
     }
-    Ok(answers::done(Effect::Beat {
-        site: m,
-        partition: p,
-        stamp,
-    }))
+    Ok(answers::done(Effect::Beat { node, stamp }))
 }
 
-// R45: the stamp that the clock of node (m, p) must pass, for a session with vector v: the largest of v's entries and the node's own entry.
-fn to_pass(table: Table, m: u8, p: u8, v: Vector) -> u64
-    requires { (m < 4) × (p < 4) }
-    ensures { result ≡ max (largest (as_vec v)) (heard_in (node_of (site_of table.entry.bytes.now m) p) m) }
+// R45: the stamp that the clock of the node must pass, for a session with vector v: the largest of v's entries and the node's own entry.
+fn to_pass(table: Table, node: NodeAt, v: Vector) -> u64
+    ensures { result ≡ max (largest (as_vec v)) (heard_in (node_of (site_of table.entry.bytes.now node.site) node.partition) node.site) }
 {
     let seen = v.largest();
-    let latest = own(table, m, p);
+    let latest = own(table, node);
     vector::later(seen, latest)
 }
 
@@ -105,37 +94,40 @@ pub fn put(table: Table, s: u8, key: u8, quality: u8, level: i32) -> Result<Deci
     if x.paged {
         return Err(Reason::PageOpen);
     }
-    let m = x.site;
-    let p = lookup::partition(table, key);
-    if !has_slot(table, m, p) {
+    let node = lookup::node_of(table, x.site, key);
+    if !has_slot(table, node) {
         return Err(Reason::NodeFull);
     }
-    if !has_room(table, m, p) {
+    if !has_room(table, node) {
         return Err(Reason::ChannelFull);
     }
-    let pass = to_pass(table, m, p, x.vec);
-    let stamp = nodes::clock(places::node(table.bytes, m, p));
+    let pass = to_pass(table, node, x.vec);
+    let stamp = nodes::clock(places::node(table.bytes, node));
     if stamp <= pass {
         return Err(Reason::Wait {
-            site: m,
+            site: x.site,
             stamp: pass,
         });
     }
-    Ok(answers::stored(s, x, p, key, quality, level, stamp))
+    Ok(answers::stored(s, x, node, key, quality, level, stamp))
 }
 
-pub fn deliver(table: Table, i: u8, m: u8, p: u8) -> Result<Decided, Reason>
-    requires { (i < load 1 table.bytes.now 0) × (m < load 1 table.bytes.now 0) × (i ≡ m → ⊥) × (p < load 1 table.bytes.now 1) }
-    ensures { decided_of result ≡ answered (decode table.entry.bytes.now) (DELIVER i m p) }
+pub fn deliver(table: Table, i: u8, node: NodeAt) -> Result<Decided, Reason>
+    requires { (i < load 1 table.bytes.now 0) × (node.site < load 1 table.bytes.now 0) × (i ≡ node.site → ⊥) × (node.partition < load 1 table.bytes.now 1) }
+    ensures { decided_of result ≡ answered (decode table.entry.bytes.now) (DELIVER i node.site node.partition) }
 {
-    let d = table::place_of(i as usize, m as usize);
-    let c = places::channel(table.bytes, i, p, d);
+    let sender = NodeAt {
+        site: i,
+        partition: node.partition,
+    };
+    let d = table::place_of(i as usize, node.site as usize);
+    let c = places::channel(table.bytes, sender, d);
     if channels::waiting(c) == 0 {
         return Err(Reason::ChannelEmpty);
     }
     let x = channels::first(c);
-    if bytes::is_update(x) & !has_slot(table, m, p) {
+    if bytes::is_update(x) & !has_slot(table, node) {
         return Err(Reason::NodeFull);
     }
-    Ok(answers::taken(i, m, p, x))
+    Ok(answers::taken(i, node, x))
 }

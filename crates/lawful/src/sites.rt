@@ -7,7 +7,7 @@ ghost use Rattle.table.specs.Parts.{Whole, site_of, node_of, channel_of, kept_of
 ghost use Rattle.lawful.specs.WellFormed.{channel_formed, site_formed, kept_formed};
 
 use crate::{channels, nodes};
-use protocol::limits::Setting;
+use protocol::limits::{NodeAt, Setting};
 use table::places;
 
 fn channels_formed(site: &[u8], setting: Setting, m: u8, p: u8) -> bool
@@ -30,9 +30,13 @@ pub fn site_formed(t: &[u8], setting: Setting, m: u8) -> bool
 {
     let site = places::site(t, m);
     for p in 0..4 {
+        let node = NodeAt {
+            site: m,
+            partition: p,
+        };
         if !nodes::node_formed(
             places::node_of(site, p),
-            places::kept(t, m, p),
+            places::kept(t, node),
             setting,
             m,
             p,

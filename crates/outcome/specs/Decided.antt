@@ -16,10 +16,10 @@ use Rattle.outcome.specs.declared.Decided.{Decided}
 abbrev pub changes_of : Effect → List Change
 changes_of Effect.Nothing = []
 changes_of (Effect.Keep s x) = SetSession s (as_session x) ∷ []
-changes_of (Effect.Clock m p t) = SetClock m p t ∷ []
-changes_of (Effect.Beat m p t) = Publish m p (Heartbeat t) ∷ []
-changes_of (Effect.Put s x m p letter) = Publish m p (as_message letter) ∷ SetSession s (as_session x) ∷ []
-changes_of (Effect.Deliver i m p letter) = Receive i m p (as_message letter) ∷ []
+changes_of (Effect.Clock n t) = SetClock n.site n.partition t ∷ []
+changes_of (Effect.Beat n t) = Publish n.site n.partition (Heartbeat t) ∷ []
+changes_of (Effect.Put s x n letter) = Publish n.site n.partition (as_message letter) ∷ SetSession s (as_session x) ∷ []
+changes_of (Effect.Deliver i n letter) = Receive i n.site n.partition (as_message letter) ∷ []
 
 abbrev pub outcome_of : Decided → Outcome
 outcome_of d = d.answer and changes_of d.effect

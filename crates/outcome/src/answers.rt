@@ -18,6 +18,7 @@ ghost use Rattle.outcome.specs.Decided.{outcome_of};
 
 use crate::{Decided, Effect, keeping};
 use parts::Session;
+use protocol::limits::NodeAt;
 use protocol::{Answer, Reading, Reason};
 use record::{Letter, Message, Numbers, Record};
 use vector::Vector;
@@ -92,12 +93,20 @@ pub fn done(effect: Effect) -> Decided
     }
 }
 
-// R45: the record carries the session's vector as it was before; then the session's own entry becomes the stamp.
-pub fn stored(s: u8, x: Session, p: u8, key: u8, quality: u8, level: i32, stamp: u64) -> Decided
-    requires { x.site < 4 }
-    ensures { outcome_of result ≡ (Stamped x.site stamp and Publish x.site p (Update (written (as_session x) key quality level stamp)) ∷ SetSession s (with_vec (as_session x) (with_entry (as_session x).vec x.site stamp)) ∷ []) }
+// R45: the record carries the session's vector as it was before; then the session's own entry becomes the stamp. The node is of the session's site.
+pub fn stored(
+    s: u8,
+    x: Session,
+    node: NodeAt,
+    key: u8,
+    quality: u8,
+    level: i32,
+    stamp: u64,
+) -> Decided
+    requires { x.site ≡ node.site }
+    ensures { outcome_of result ≡ (Stamped x.site stamp and Publish x.site node.partition (Update (written (as_session x) key quality level stamp)) ∷ SetSession s (with_vec (as_session x) (with_entry (as_session x).vec x.site stamp)) ∷ []) }
 {
-    let source = x.site;
+    let source = node.site;
     let vec = x.vec.with_entry(source as usize, stamp);
     let message = Message::Update(Numbers {
         key,
@@ -115,23 +124,21 @@ pub fn stored(s: u8, x: Session, p: u8, key: u8, quality: u8, level: i32, stamp:
         effect: Effect::Put {
             session: s,
             kept: keeping::with_vector(x, vec),
-            site: source,
-            partition: p,
+            node,
             letter,
         },
     }
 }
 
-// The message leaves the channel from site i to node (m, p).
-pub fn taken(i: u8, m: u8, p: u8, letter: Letter) -> Decided
-    ensures { outcome_of result ≡ (Done and Receive i m p (as_message letter) ∷ []) }
+// The message leaves the channel from site i to the node.
+pub fn taken(i: u8, node: NodeAt, letter: Letter) -> Decided
+    ensures { outcome_of result ≡ (Done and Receive i node.site node.partition (as_message letter) ∷ []) }
 {
     Decided {
         answer: Answer::Done,
         effect: Effect::Deliver {
             from: i,
-            site: m,
-            partition: p,
+            node,
             letter,
         },
     }

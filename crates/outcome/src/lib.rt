@@ -5,6 +5,7 @@
 
 use parts::Session;
 use protocol::Answer;
+use protocol::limits::NodeAt;
 use record::Letter;
 
 pub mod answers;
@@ -21,26 +22,22 @@ pub enum Effect {
         kept: Session,
     },
     Clock {
-        site: u8,
-        partition: u8,
+        node: NodeAt,
         time: u64,
     },
     Beat {
-        site: u8,
-        partition: u8,
+        node: NodeAt,
         stamp: u64,
     },
     Put {
         session: u8,
         kept: Session,
-        site: u8,
-        partition: u8,
+        node: NodeAt,
         letter: Letter,
     },
     Deliver {
         from: u8,
-        site: u8,
-        partition: u8,
+        node: NodeAt,
         letter: Letter,
     },
 }

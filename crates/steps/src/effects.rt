@@ -18,42 +18,28 @@ pub fn carry_out(t: &mut [u8], effect: Effect)
         Effect::Keep { session, kept } => {
             table::set_session(t, session as usize, kept);
         }
-        Effect::Clock {
-            site,
-            partition,
-            time,
-        } => {
-            table::set_clock(t, site as usize, partition as usize, time);
+        Effect::Clock { node, time } => {
+            table::set_clock(t, node, time);
         }
-        Effect::Beat {
-            site,
-            partition,
-            stamp,
-        } => {
+        Effect::Beat { node, stamp } => {
             let message = Message::Heartbeat { stamp };
             let letter = Letter {
                 message,
                 carried: Vector::ZERO,
             };
-            table::publish(t, site as usize, partition as usize, letter);
+            table::publish(t, node, letter);
         }
         Effect::Put {
             session,
             kept,
-            site,
-            partition,
+            node,
             letter,
         } => {
-            table::publish(t, site as usize, partition as usize, letter);
+            table::publish(t, node, letter);
             table::set_session(t, session as usize, kept);
         }
-        Effect::Deliver {
-            from,
-            site,
-            partition,
-            letter,
-        } => {
-            table::receive(t, from as usize, site as usize, partition as usize, letter);
+        Effect::Deliver { from, node, letter } => {
+            table::receive(t, from as usize, node, letter);
         }
     }
 }

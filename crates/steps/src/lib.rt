@@ -18,6 +18,7 @@ use decision::{pages, sessions, writes};
 use event::Event;
 use lawful::Table;
 use outcome::Decided;
+use protocol::limits::NodeAt;
 use protocol::{Answer, Reason};
 
 pub mod answers;
@@ -36,7 +37,7 @@ pub fn decide(table: Table, event: Event) -> Result<Decided, Reason>
             site,
             partition,
             time,
-        } => writes::clock(table, site, partition, time),
+        } => writes::clock(table, NodeAt { site, partition }, time),
         Event::Get { session, key } => sessions::get(table, session, key),
         Event::Put {
             session,
@@ -52,12 +53,12 @@ pub fn decide(table: Table, event: Event) -> Result<Decided, Reason>
         } => pages::begin(table, session, partition, count, keys),
         Event::Read { session, key } => pages::read(table, session, key),
         Event::End { session } => pages::end(table, session),
-        Event::Beat { site, partition } => writes::beat(table, site, partition),
+        Event::Beat { site, partition } => writes::beat(table, NodeAt { site, partition }),
         Event::Deliver {
             from,
             site,
             partition,
-        } => writes::deliver(table, from, site, partition),
+        } => writes::deliver(table, from, NodeAt { site, partition }),
     }
 }
 

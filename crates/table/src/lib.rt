@@ -19,7 +19,7 @@ ghost use Rattle.table.specs.Fits.{FitsPublish, FitsReceive};
 
 use codec::Number;
 use parts::{Session, sessions};
-use protocol::limits::Setting;
+use protocol::limits::{NodeAt, Setting};
 use record::Letter;
 
 pub mod kept;
@@ -53,32 +53,43 @@ pub fn set_session(t: &mut [u8], s: usize, x: Session)
     sessions::store(&mut t[off..off + places::SESSION], x);
 }
 
-pub fn set_clock(t: &mut [u8], m: usize, p: usize, time: u64)
-    requires { Long t.old × (m < 4) × (p < 4) }
-    ensures { t.new ≡ put_change (SetClock m p time) t.old }
+pub fn set_clock(t: &mut [u8], node: NodeAt, time: u64)
+    requires { Long t.old }
+    ensures { t.new ≡ put_change (SetClock node.site node.partition time) t.old }
 {
-    let off = places::site_at(m);
-    sites::set_clock(&mut t[off..off + places::SITE], p, time);
+    let off = places::site_at(node.site as usize);
+    sites::set_clock(
+        &mut t[off..off + places::SITE],
+        node.partition as usize,
+        time,
+    );
 }
 
-// Node (m, p) makes a message.
-pub fn publish(t: &mut [u8], m: usize, p: usize, x: Letter)
-    requires { FitsPublish m p (as_message x) t.old }
-    ensures { t.new ≡ put_change (Publish m p (as_message x)) t.old }
+// The node makes a message.
+pub fn publish(t: &mut [u8], node: NodeAt, x: Letter)
+    requires { FitsPublish node.site node.partition (as_message x) t.old }
+    ensures { t.new ≡ put_change (Publish node.site node.partition (as_message x)) t.old }
 {
+    let m = node.site as usize;
+    let p = node.partition as usize;
     let n = u8::load(t, 0) as usize - 1;
     let off = places::site_at(m);
     sites::publish(&mut t[off..off + places::SITE], n, m, p, x);
-    kept::note_message(t, m, p, x);
+    kept::note_message(t, node, x);
 }
 
-// Node (m, p) takes a message of site i in.
-fn take_in(t: &mut [u8], i: usize, m: usize, p: usize, x: Letter)
-    requires { Long t.old × (i < 4) × (m < 4) × (p < 4) × Room (as_message x) (node_of (site_of t.old m) p) }
-    ensures { t.new ≡ on_site m (on_node p (received i (as_message x))) t.old }
+// The node takes a message of site i in.
+fn take_in(t: &mut [u8], i: usize, node: NodeAt, x: Letter)
+    requires { Long t.old × (i < 4) × Room (as_message x) (node_of (site_of t.old node.site) node.partition) }
+    ensures { t.new ≡ on_site node.site (on_node node.partition (received i (as_message x))) t.old }
 {
-    let off = places::site_at(m);
-    sites::receive(&mut t[off..off + places::SITE], i, p, x);
+    let off = places::site_at(node.site as usize);
+    sites::receive(
+        &mut t[off..off + places::SITE],
+        i,
+        node.partition as usize,
+        x,
+    );
 }
 
 // The message in front leaves channel d of site i at partition p.
@@ -90,13 +101,13 @@ fn take_off(t: &mut [u8], i: usize, p: usize, d: usize)
     sites::pop(&mut t[off..off + places::SITE], p, d);
 }
 
-// Node (m, p) takes the message off the front of the channel from site i.
-pub fn receive(t: &mut [u8], i: usize, m: usize, p: usize, x: Letter)
-    requires { FitsReceive i m p (as_message x) t.old }
-    ensures { t.new ≡ put_change (Receive i m p (as_message x)) t.old }
+// The node takes the message off the front of the channel from site i.
+pub fn receive(t: &mut [u8], i: usize, node: NodeAt, x: Letter)
+    requires { FitsReceive i node.site node.partition (as_message x) t.old }
+    ensures { t.new ≡ put_change (Receive i node.site node.partition (as_message x)) t.old }
 {
-    let d = place_of(i, m);
-    take_in(t, i, m, p, x);
-    take_off(t, i, p, d);
-    kept::note_message(t, m, p, x);
+    let d = place_of(i, node.site as usize);
+    take_in(t, i, node, x);
+    take_off(t, i, node.partition as usize, d);
+    kept::note_message(t, node, x);
 }

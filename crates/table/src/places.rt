@@ -3,6 +3,8 @@
 ghost use Rattle.std.specs.Prelude.{◌≡◌, ◌+◌, ◌≤◌, ◌<◌, length};
 ghost use Rattle.table.specs.Parts.{Whole, Long, session_at, site_at, node_at, channel_at, kept_at, session_of, site_of, node_of, channel_of, kept_of};
 
+use protocol::limits::NodeAt;
+
 pub const SESSION: usize = 128;
 
 pub const SITE: usize = 13056;
@@ -45,12 +47,11 @@ pub fn channel_at(p: usize, d: usize) -> usize
     7424 + CHANNEL * (3 * p + d)
 }
 
-// Where the kept places of node (m, p) start in the table.
-pub fn kept_at(m: usize, p: usize) -> usize
-    requires { (m < 4) × (p < 4) }
-    ensures { (result ≡ kept_at m p) × (result + 64 ≤ 57344) }
+// Where the kept places of a node start in the table.
+pub fn kept_at(node: NodeAt) -> usize
+    ensures { (result ≡ kept_at node.site node.partition) × (result + 64 ≤ 57344) }
 {
-    56320 + KEPT * (4 * m + p)
+    56320 + KEPT * (4 * (node.site as usize) + node.partition as usize)
 }
 
 pub fn session(t: &[u8], s: u8) -> &[u8]
@@ -70,27 +71,27 @@ pub fn site(t: &[u8], m: u8) -> &[u8]
     &t[off..off + SITE]
 }
 
-pub fn node(t: &[u8], m: u8, p: u8) -> &[u8]
-    requires { Long t.now × (m < 4) × (p < 4) }
-    ensures { (result.now ≡ node_of (site_of t.now m) p) × (length result.now ≡ 1856) }
+pub fn node(t: &[u8], node: NodeAt) -> &[u8]
+    requires { Long t.now }
+    ensures { (result.now ≡ node_of (site_of t.now node.site) node.partition) × (length result.now ≡ 1856) }
 {
-    node_of(site(t, m), p)
+    node_of(site(t, node.site), node.partition)
 }
 
-// The channel of node (m, p) to the place d.
-pub fn channel(t: &[u8], m: u8, p: u8, d: usize) -> &[u8]
-    requires { Long t.now × (m < 4) × (p < 4) × (d < 3) }
-    ensures { (result.now ≡ channel_of (site_of t.now m) p d) × (length result.now ≡ 464) }
+// The channel of the node to the place d.
+pub fn channel(t: &[u8], node: NodeAt, d: usize) -> &[u8]
+    requires { Long t.now × (d < 3) }
+    ensures { (result.now ≡ channel_of (site_of t.now node.site) node.partition d) × (length result.now ≡ 464) }
 {
-    channel_of(site(t, m), p, d)
+    channel_of(site(t, node.site), node.partition, d)
 }
 
-// The kept places of node (m, p).
-pub fn kept(t: &[u8], m: u8, p: u8) -> &[u8]
-    requires { Whole t.now × (m < 4) × (p < 4) }
-    ensures { (result.now ≡ kept_of t.now m p) × (length result.now ≡ 64) }
+// The node's kept places.
+pub fn kept(t: &[u8], node: NodeAt) -> &[u8]
+    requires { Whole t.now }
+    ensures { (result.now ≡ kept_of t.now node.site node.partition) × (length result.now ≡ 64) }
 {
-    let off = kept_at(m as usize, p as usize);
+    let off = kept_at(node);
     &t[off..off + KEPT]
 }
 

@@ -27,6 +27,15 @@ close_session-requires c =
     let k = ranged c.args.table.bytes.now c.args.event _ c.in-Close.is c.requires in
     ltb_yes k.0
 
+pub invariant_of-clock : goal.invariant_of-clock
+unfolding ranges
+invariant_of-clock c =
+    let k = ranged c.args.table.bytes.now c.args.event _ c.in-Clock.is c.requires in
+    let F = formed c.args.table.bytes.now c.args.table.formed in
+    let site = ltb_yes k.0 in
+    let partition = ltb_yes k.1.0 in
+    record { four_sites = omega arith; four_partitions = omega arith }
+
 pub clock-requires : goal.clock-requires
 unfolding ranges
 clock-requires c =
@@ -67,11 +76,29 @@ end-requires c =
     let k = ranged c.args.table.bytes.now c.args.event _ c.in-End.is c.requires in
     ltb_yes k.0
 
+pub invariant_of-beat : goal.invariant_of-beat
+unfolding ranges
+invariant_of-beat c =
+    let k = ranged c.args.table.bytes.now c.args.event _ c.in-Beat.is c.requires in
+    let F = formed c.args.table.bytes.now c.args.table.formed in
+    let site = ltb_yes k.0 in
+    let partition = ltb_yes k.1.0 in
+    record { four_sites = omega arith; four_partitions = omega arith }
+
 pub beat-requires : goal.beat-requires
 unfolding ranges
 beat-requires c =
     let k = ranged c.args.table.bytes.now c.args.event _ c.in-Beat.is c.requires in
     (ltb_yes k.0, ltb_yes k.1.0)
+
+pub invariant_of-deliver : goal.invariant_of-deliver
+unfolding ranges
+invariant_of-deliver c =
+    let k = ranged c.args.table.bytes.now c.args.event _ c.in-Deliver.is c.requires in
+    let F = formed c.args.table.bytes.now c.args.table.formed in
+    let site = ltb_yes k.0 in
+    let partition = ltb_yes k.1.0 in
+    record { four_sites = omega arith; four_partitions = omega arith }
 
 pub deliver-requires : goal.deliver-requires
 unfolding ranges

@@ -19,8 +19,8 @@ pub publish-requires : goal.publish-requires
 publish-requires c =
     let a = c.args in
     let fit = c.requires in
-    let site : a.m < 4 = omega (arith, fit.site, fit.sites) in
-    let here = site_lent a.t.now a.m _ c.site_at-off.ensures.0 site in (
+    let site : a.node.site < 4 = omega (arith, fit.site, fit.sites) in
+    let here = site_lent a.t.now a.node.site _ c.site_at-off.ensures.0 site in (
       search rules,
       omega (arith, c.load.ensures, fit.sites),
       site,
@@ -33,23 +33,21 @@ pub note_message-requires : goal.note_message-requires
 unfolding put_core
 note_message-requires c =
     let a = c.args in
-    let sent : put_mid c.site_at-off.result (c.site_at-off.result + 13056 - c.site_at-off.result) a.t.now c.publish.new.site ≡ put_core (Publish a.m a.p (as_message a.x)) a.t.now =
-    rw (sym c.load.ensures) (site_back a.t.now a.m _ c.site_at-off.ensures.0 _ (published_on (c.load.result - 1) a.m a.p (as_message a.x)) c.publish.ensures) in
+    let sent : put_mid c.site_at-off.result (c.site_at-off.result + 13056 - c.site_at-off.result) a.t.now c.publish.new.site ≡ put_core (Publish a.node.site a.node.partition (as_message a.x)) a.t.now =
+    rw (sym c.load.ensures) (site_back a.t.now a.node.site _ c.site_at-off.ensures.0 _ (published_on (c.load.result - 1) a.node.site a.node.partition (as_message a.x)) c.publish.ensures) in
     let fit = c.requires in
     let x = as_message a.x in
     let long : Long a.t.now = omega (arith, fit.whole) in
-    let same = ap length sent ∙ length-put_core (Publish a.m a.p x) a.t.now long fit in (
+    let same = ap length sent ∙ length-put_core (Publish a.node.site a.node.partition x) a.t.now long fit in (
       omega (arith, same, fit.whole),
-      omega (arith, fit.site, fit.sites),
-      fit.partition,
-      subst (Notable a.m a.p x) (sym sent) (publish_notable a.m a.p x a.t.now fit),
+      subst (Notable a.node.site a.node.partition x) (sym sent) (publish_notable a.node.site a.node.partition x a.t.now fit),
     )
 
 pub returns : goal.returns
 unfolding put_core
 returns c =
     let a = c.args in
-    let sent : put_mid c.site_at-off.result (c.site_at-off.result + 13056 - c.site_at-off.result) a.t.now c.publish.new.site ≡ put_core (Publish a.m a.p (as_message a.x)) a.t.now =
-    rw (sym c.load.ensures) (site_back a.t.now a.m _ c.site_at-off.ensures.0 _ (published_on (c.load.result - 1) a.m a.p (as_message a.x)) c.publish.ensures) in
+    let sent : put_mid c.site_at-off.result (c.site_at-off.result + 13056 - c.site_at-off.result) a.t.now c.publish.new.site ≡ put_core (Publish a.node.site a.node.partition (as_message a.x)) a.t.now =
+    rw (sym c.load.ensures) (site_back a.t.now a.node.site _ c.site_at-off.ensures.0 _ (published_on (c.load.result - 1) a.node.site a.node.partition (as_message a.x)) c.publish.ensures) in
     let x = as_message a.x in
-    c.note_message.ensures ∙ ap (message_noted a.m a.p x) sent ∙ publish-noted a.m a.p x a.t.now c.requires
+    c.note_message.ensures ∙ ap (message_noted a.node.site a.node.partition x) sent ∙ publish-noted a.node.site a.node.partition x a.t.now c.requires

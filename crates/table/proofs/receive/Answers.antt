@@ -18,35 +18,33 @@ place_of-d-requires c = let fit = c.requires in (fit.source, fit.site, fit.other
 pub take_in-requires : goal.take_in-requires
 take_in-requires c =
     let fit = c.requires in
-    (omega (arith, fit.whole), fit.source, fit.site, fit.partition, fit.room)
+    (omega (arith, fit.whole), fit.source, fit.room)
 
 pub take_off-requires : goal.take_off-requires
 take_off-requires c =
     let a = c.args in
     let fit = c.requires in
     let long : Long a.t.now = omega (arith, fit.whole) in
-    let same = site-received a.i (as_message a.x) a.t.now a.m a.p long fit.site fit.partition fit.other in
+    let same = site-received a.i (as_message a.x) a.t.now a.node.site a.node.partition long fit.site fit.partition fit.other in
     (omega (arith, fit.whole), fit.source, fit.partition, omega arith, rw (c.take_in.ensures, same, c.place_of-d.ensures.0) fit.waits)
 
 pub note_message-requires : goal.note_message-requires
 unfolding put_core
 note_message-requires c =
     let a = c.args in
-    let taken : c.take_off.new.t ≡ put_core (Receive a.i a.m a.p (as_message a.x)) a.t.now = c.take_off.ensures ∙ rw (c.take_in.ensures, c.place_of-d.ensures.0) in
+    let taken : c.take_off.new.t ≡ put_core (Receive a.i a.node.site a.node.partition (as_message a.x)) a.t.now = c.take_off.ensures ∙ rw (c.take_in.ensures, c.place_of-d.ensures.0) in
     let fit = c.requires in
     let x = as_message a.x in
     let long : Long a.t.now = omega (arith, fit.whole) in
-    let same = ap length taken ∙ length-put_core (Receive a.i a.m a.p x) a.t.now long fit in (
+    let same = ap length taken ∙ length-put_core (Receive a.i a.node.site a.node.partition x) a.t.now long fit in (
       omega (arith, same, fit.whole),
-      fit.site,
-      fit.partition,
-      subst (Notable a.m a.p x) (sym taken) (receive_notable a.i a.m a.p x a.t.now fit),
+      subst (Notable a.node.site a.node.partition x) (sym taken) (receive_notable a.i a.node.site a.node.partition x a.t.now fit),
     )
 
 pub returns : goal.returns
 unfolding put_core
 returns c =
     let a = c.args in
-    let taken : c.take_off.new.t ≡ put_core (Receive a.i a.m a.p (as_message a.x)) a.t.now = c.take_off.ensures ∙ rw (c.take_in.ensures, c.place_of-d.ensures.0) in
+    let taken : c.take_off.new.t ≡ put_core (Receive a.i a.node.site a.node.partition (as_message a.x)) a.t.now = c.take_off.ensures ∙ rw (c.take_in.ensures, c.place_of-d.ensures.0) in
     let x = as_message a.x in
-    c.note_message.ensures ∙ ap (message_noted a.m a.p x) taken ∙ receive-noted a.i a.m a.p x a.t.now c.requires
+    c.note_message.ensures ∙ ap (message_noted a.node.site a.node.partition x) taken ∙ receive-noted a.i a.node.site a.node.partition x a.t.now c.requires

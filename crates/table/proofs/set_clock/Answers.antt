@@ -9,4 +9,4 @@ pub returns : goal.returns
 unfolding put_change kept_after put_core
 returns c =
     let a = c.args in
-    site_back a.t.now a.m _ c.site_at-off.ensures.0 _ (on_node a.p (clock_set a.time)) c.set_clock.ensures
+    site_back a.t.now a.node.site _ c.site_at-off.ensures.0 _ (on_node a.node.partition (clock_set a.time)) c.set_clock.ensures

@@ -10,9 +10,9 @@ use Rattle.table.proofs.take_in.Goals as goal
 pub receive-requires : goal.receive-requires
 receive-requires c =
     let a = c.args in
-    (search rules, omega arith, omega arith, rw (← site_lent a.t.now a.m _ c.site_at-off.ensures.0 (omega arith)) c.requires.4)
+    (search rules, omega arith, omega arith, rw (← site_lent a.t.now a.node.site _ c.site_at-off.ensures.0 (omega arith)) c.requires.2)
 
 pub returns : goal.returns
 returns c =
     let a = c.args in
-    site_back a.t.now a.m _ c.site_at-off.ensures.0 _ (on_node a.p (received a.i (as_message a.x))) c.receive.ensures
+    site_back a.t.now a.node.site _ c.site_at-off.ensures.0 _ (on_node a.node.partition (received a.i (as_message a.x))) c.receive.ensures

@@ -23,18 +23,18 @@ use Rattle.decision.proofs.lookup.at_hand.Goals as goal
 pub found_at-requires : goal.found_at-requires
 found_at-requires c =
     let a = c.args in
-    let place_small : c.place-place.result ≤ held_in (node_of (site_of a.table.bytes.now a.m) a.p) =
-    rw (c.place-place.ensures ∙ load_byte _ a.key ∙ ap (λ (b : List ℕ). get_or b a.key 0) (kept a.table.bytes.now c.args.table.whole c.args.table.formed a.m a.p c.requires.0 c.requires.1) ∙ places_at (setting_in a.table.bytes.now) (node_of (site_of a.table.bytes.now a.m) a.p) a.key c.requires.2) (place_held (setting_in a.table.bytes.now) (node_of (site_of a.table.bytes.now a.m) a.p) a.key) in
+    let place_small : c.place-place.result ≤ held_in (node_of (site_of a.table.bytes.now a.node.site) a.node.partition) =
+    rw (c.place-place.ensures ∙ load_byte _ a.key ∙ ap (λ (b : List ℕ). get_or b a.key 0) (kept a.table.bytes.now c.args.table.whole c.args.table.formed a.node.site a.node.partition c.args.node.four_sites c.args.node.four_partitions) ∙ places_at (setting_in a.table.bytes.now) (node_of (site_of a.table.bytes.now a.node.site) a.node.partition) a.key c.requires) (place_held (setting_in a.table.bytes.now) (node_of (site_of a.table.bytes.now a.node.site) a.node.partition) a.key) in
     let t = a.table.bytes.now in
     let here = sym c.node.ensures.0 in
-    let most = node_held t c.args.table.formed a.m a.p c.requires.0 c.requires.1 in (
+    let most = node_held t c.args.table.formed a.node.site a.node.partition c.args.node.four_sites c.args.node.four_partitions in (
       search rules,
       omega (
         arith,
         place_small,
         most,
       ),
-      λ h. subst (λ n. (record_at n (slot_at (c.place-place.result - 1))).id.source < 4) here (node_source t c.args.table.formed a.m a.p c.requires.0 c.requires.1 (c.place-place.result - 1) (omega (
+      λ h. subst (λ n. (record_at n (slot_at (c.place-place.result - 1))).id.source < 4) here (node_source t c.args.table.formed a.node.site a.node.partition c.args.node.four_sites c.args.node.four_partitions (c.place-place.result - 1) (omega (
         arith,
         place_small,
       ))),
@@ -45,14 +45,14 @@ unfolding store_in place_in
 returns c =
     let a = c.args in
     let t = a.table.bytes.now in
-    let n = node_of (site_of t a.m) a.p in
+    let n = node_of (site_of t a.node.site) a.node.partition in
     let f : ℕ → Rec = λ i. record_at n (slot_at i) in (
       c.found_at.ensures.0
           ∙ ap (λ (b : List ℕ). placed (λ i. record_at b (slot_at i)) c.place-place.result) c.node.ensures.0
           ∙ ap (placed f) (c.place-place.ensures
           ∙ load_byte _ c.args.key
-          ∙ ap (λ (b : List ℕ). get_or b c.args.key 0) (kept c.args.table.bytes.now c.args.table.whole c.args.table.formed c.args.m c.args.p c.requires.0 c.requires.1)
-          ∙ places_at (setting_in c.args.table.bytes.now) (node_of (site_of c.args.table.bytes.now c.args.m) c.args.p) c.args.key c.requires.2)
+          ∙ ap (λ (b : List ℕ). get_or b c.args.key 0) (kept c.args.table.bytes.now c.args.table.whole c.args.table.formed c.args.node.site c.args.node.partition c.args.node.four_sites c.args.node.four_partitions)
+          ∙ places_at (setting_in c.args.table.bytes.now) (node_of (site_of c.args.table.bytes.now c.args.node.site) c.args.node.partition) c.args.key c.requires)
           ∙ sym (found-newest (setting_in t) (of_key a.key) (store_in n) ∙ newest_is_placed (setting_in t) (of_key a.key) f (held_in n)),
       c.found_at.ensures.1,
     )

@@ -15,8 +15,8 @@ newest-requires c =
     let t = a.table.bytes.now in
     let here = sym c.node.ensures.0 in (
       search rules,
-      subst (λ n. held_in n ≤ 32) here (node_held t c.args.table.formed a.m a.p c.requires.0 c.requires.1),
-      subst (λ n. (k : ℕ) → k < held_in n → (record_at n (slot_at k)).id.source < 4) here (node_source t c.args.table.formed a.m a.p c.requires.0 c.requires.1),
+      subst (λ n. held_in n ≤ 32) here (node_held t c.args.table.formed a.node.site a.node.partition c.args.node.four_sites c.args.node.four_partitions),
+      subst (λ n. (k : ℕ) → k < held_in n → (record_at n (slot_at k)).id.source < 4) here (node_source t c.args.table.formed a.node.site a.node.partition c.args.node.four_sites c.args.node.four_partitions),
     )
 
 pub returns : goal.returns

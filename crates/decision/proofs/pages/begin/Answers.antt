@@ -27,9 +27,6 @@ returns-then-not-distinct c =
     let x = c.in_ok-x.ensures.ok in
     sym (begin_says a.table.bytes.now a.s (as_session c.in_ok-x.x) x.says a.p (keys_on a.keys a.count) ∙ rw (x.is_open, c.if-x.false, sym c.distinct.ensures, c.if-not-distinct.true))
 
-pub heard-coordinator-requires : goal.heard-coordinator-requires
-heard-coordinator-requires c = (c.in_ok-x.ensures.ok.site, c.requires.1)
-
 pub returns : goal.returns
 returns c =
     let a = c.args in

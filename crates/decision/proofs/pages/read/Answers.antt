@@ -32,22 +32,15 @@ returns-then-not-awaited c =
     let x = c.in_ok-x.ensures.ok in
     sym (read-says a.table.bytes.now a.s (as_session c.in_ok-x.x) x.says a.k ∙ rw (x.is_open, not-false _ c.if-not-x.false, sym c.awaited.ensures, c.if-not-awaited.true))
 
-pub heard-heard-requires : goal.heard-heard-requires
-heard-heard-requires c = (c.in_ok-x.ensures.ok.site, c.partition-p.ensures.1)
-
 pub returns-in_err-hears : goal.returns-in_err-hears
 returns-in_err-hears c =
     let a = c.args in
     let x = c.in_ok-x.x in
     let known = c.in_ok-x.ensures.ok in
-    let hears : as_vec c.heard-heard.result ≡ heard_by a.table.bytes.now x.site a.k = c.heard-heard.ensures ∙ rw c.partition-p.ensures.0 in
+    let hears : as_vec c.heard-heard.result ≡ heard_by a.table.bytes.now x.site a.k = c.heard-heard.ensures ∙ rw (c.node_of-node.ensures.0, c.node_of-node.ensures.1) in
     let met = c.in_err-hears.ensures.err in
     turned _ _ c.from_residual-in_err-hears.ensures.1 _ met.1
     ∙ sym (read-says a.table.bytes.now a.s (as_session x) known.says a.k ∙ rw (known.is_open, not-false _ c.if-not-x.false, sym c.awaited.ensures, c.if-not-awaited.false, sym hears, met.0))
-
-pub newest-found-requires : goal.newest-found-requires
-newest-found-requires c =
-    (c.in_ok-x.ensures.ok.site, c.partition-p.ensures.1)
 
 pub read_on-requires : goal.read_on-requires
 read_on-requires c = (c.in_ok-x.ensures.ok.few, c.newest-found.ensures.1)
@@ -57,8 +50,8 @@ returns c =
     let a = c.args in
     let x = c.in_ok-x.x in
     let known = c.in_ok-x.ensures.ok in
-    let hears : as_vec c.heard-heard.result ≡ heard_by a.table.bytes.now x.site a.k = c.heard-heard.ensures ∙ rw c.partition-p.ensures.0 in
+    let hears : as_vec c.heard-heard.result ≡ heard_by a.table.bytes.now x.site a.k = c.heard-heard.ensures ∙ rw (c.node_of-node.ensures.0, c.node_of-node.ensures.1) in
     let shows : found_of c.newest-found.result ≡ found (setting_in a.table.bytes.now) (fits_page a.k (as_vec x.snapshot)) (stored_by a.table.bytes.now x.site a.k) =
-    c.newest-found.ensures.0 ∙ rw c.partition-p.ensures.0 in
+    c.newest-found.ensures.0 ∙ rw (c.node_of-node.ensures.0, c.node_of-node.ensures.1) in
     c.kept.ensures
     ∙ sym (read-says a.table.bytes.now a.s (as_session x) known.says a.k ∙ if_page_lem (as_session x) known.is_open (not-false _ c.if-not-x.false) ∙ rw (c.read_on.ensures, sym c.awaited.ensures, c.if-not-awaited.false, sym hears, c.in_ok-hears.ensures.ok, c.shown.ensures, shows))

@@ -26,23 +26,19 @@ returns-then-x c =
     let x = c.in_ok-x.ensures.ok in
     sym (get_says a.table.bytes.now a.s (as_session c.in_ok-x.x) x.says a.k ∙ rw (x.is_open, c.if-x.true))
 
-pub heard-heard-requires : goal.heard-heard-requires
-heard-heard-requires c = (c.in_ok-x.ensures.ok.site, search rules)
-
 pub returns-in_err-hears : goal.returns-in_err-hears
 returns-in_err-hears c =
     let a = c.args in
     let x = c.in_ok-x.x in
     let known = c.in_ok-x.ensures.ok in
     let heard = heard_by a.table.bytes.now x.site a.k in
-    let hears : as_vec c.heard-heard.result ≡ heard = c.heard-heard.ensures ∙ rw c.partition-p.ensures.0 in
+    let hears : as_vec c.heard-heard.result ≡ heard = c.heard-heard.ensures ∙ rw (c.node_of-node.ensures.0, c.node_of-node.ensures.1) in
     let met = c.in_err-hears.ensures.err in
     turned _ _ c.from_residual-in_err-hears.ensures.1 _ met.1
     ∙ sym (get_says a.table.bytes.now a.s (as_session x) known.says a.k ∙ rw (known.is_open, c.if-x.false, sym hears, met.0))
 
 pub at_hand-found-requires : goal.at_hand-found-requires
-at_hand-found-requires c =
-    (c.in_ok-x.ensures.ok.site, c.partition-p.ensures.1, c.requires.1)
+at_hand-found-requires c = c.requires.1
 
 pub raised_by-requires : goal.raised_by-requires
 raised_by-requires c = c.at_hand-found.ensures.1
@@ -53,7 +49,7 @@ returns c =
     let x = c.in_ok-x.x in
     let known = c.in_ok-x.ensures.ok in
     let heard = heard_by a.table.bytes.now x.site a.k in
-    let hears : as_vec c.heard-heard.result ≡ heard = c.heard-heard.ensures ∙ rw c.partition-p.ensures.0 in
-    let shows : found_of c.at_hand-found.result ≡ found (setting_in a.table.bytes.now) (of_key a.k) (stored_by a.table.bytes.now x.site a.k) = c.at_hand-found.ensures.0 ∙ rw c.partition-p.ensures.0 in
+    let hears : as_vec c.heard-heard.result ≡ heard = c.heard-heard.ensures ∙ rw (c.node_of-node.ensures.0, c.node_of-node.ensures.1) in
+    let shows : found_of c.at_hand-found.result ≡ found (setting_in a.table.bytes.now) (of_key a.k) (stored_by a.table.bytes.now x.site a.k) = c.at_hand-found.ensures.0 ∙ rw (c.node_of-node.ensures.0, c.node_of-node.ensures.1) in
     c.kept.ensures
     ∙ sym (get_says a.table.bytes.now a.s (as_session x) known.says a.k ∙ if_no_page_lem (as_session x) known.is_open c.if-x.false ∙ rw (c.raised_by.ensures, sym hears, c.in_ok-hears.ensures.ok, c.shown.ensures, shows))

@@ -8,19 +8,14 @@ use Rattle.lawful.proofs.Facts.{formed}
 use Rattle.decision.proofs.Times.{clock-answered}
 use Rattle.decision.proofs.writes.clock.Goals as goal
 
-pub node-requires : goal.node-requires
-node-requires c =
-    let F = formed c.args.table.bytes.now c.args.table.formed in
-    (omega arith, omega arith, omega arith)
-
 pub returns-then-time-clock : goal.returns-then-time-clock
 returns-then-time-clock c =
     let a = c.args in
     let e = (c.clock.ensures ∙ ap clock_in c.node.ensures.0) in
-    sym (clock-answered a.table.bytes.now a.m a.p a.time ∙ rw (lt-leb (clock_in (node_of (site_of a.table.bytes.now a.m) a.p)) a.time (omega arith)))
+    sym (clock-answered a.table.bytes.now a.node.site a.node.partition a.time ∙ rw (lt-leb (clock_in (node_of (site_of a.table.bytes.now a.node.site) a.node.partition)) a.time (omega arith)))
 
 pub returns : goal.returns
 returns c =
     let a = c.args in
     let e = (c.clock.ensures ∙ ap clock_in c.node.ensures.0) in
-    rw (c.done.ensures.0, c.done.ensures.1, clock-answered a.table.bytes.now a.m a.p a.time, le-leb (clock_in (node_of (site_of a.table.bytes.now a.m) a.p)) a.time (omega arith))
+    rw (c.done.ensures.0, c.done.ensures.1, clock-answered a.table.bytes.now a.node.site a.node.partition a.time, le-leb (clock_in (node_of (site_of a.table.bytes.now a.node.site) a.node.partition)) a.time (omega arith))

@@ -6,4 +6,4 @@ use Rattle.table.specs.Parts.{site_of, channel_of}
 use Rattle.decision.proofs.writes.has_room.Given as goal
 
 abbrev pub invariant-loop-d : goal.invariant-loop-d
-invariant-loop-d l = l.all ≡ all_below l.d (λ k. ltb (wait_in (channel_of (site_of l.table.bytes.now l.m) l.p k)) 8)
+invariant-loop-d l = l.all ≡ all_below l.d (λ k. ltb (wait_in (channel_of (site_of l.table.bytes.now l.node.site) l.node.partition k)) 8)

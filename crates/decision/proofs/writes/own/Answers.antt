@@ -5,4 +5,4 @@ use Rattle.decision.proofs.writes.own.Goals as goal
 
 pub returns : goal.returns
 unfolding entry
-returns c = ap (λ v. v c.args.m) c.heard.ensures
+returns c = ap (λ v. v c.args.node.site) c.heard.ensures

@@ -34,48 +34,35 @@ returns-then-x c =
     let a = c.args in
     sym (put_paged a.table.bytes.now a.s a.key a.quality a.level (as_session c.in_ok-x.x) x.says (partition_of (setting_in a.table.bytes.now) a.key) refl x.is_open c.if-x.true)
 
-pub has_slot-requires : goal.has_slot-requires
-has_slot-requires c = (c.in_ok-x.ensures.ok.site, search rules)
-
 pub returns-then-not-has_slot : goal.returns-then-not-has_slot
 returns-then-not-has_slot c =
-    let full = sym c.has_slot.ensures ∙ c.if-not-has_slot.true in
-    sym ((put_there c.args.table.bytes.now c.args.s c.args.key c.args.quality c.args.level (as_session c.in_ok-x.x) c.in_ok-x.ensures.ok.says c.partition-p.result c.partition-p.ensures.0 c.in_ok-x.ensures.ok.is_open c.if-x.false c.in_ok-x.ensures.ok.there (formed c.args.table.bytes.now c.args.table.formed).sites) ∙ rw full)
-
-pub has_room-requires : goal.has_room-requires
-has_room-requires c = (c.in_ok-x.ensures.ok.site, c.partition-p.ensures.1)
+    let full = rw c.node_of-node.ensures.0 at (sym c.has_slot.ensures ∙ c.if-not-has_slot.true) in
+    sym ((put_there c.args.table.bytes.now c.args.s c.args.key c.args.quality c.args.level (as_session c.in_ok-x.x) c.in_ok-x.ensures.ok.says c.node_of-node.result.partition c.node_of-node.ensures.1 c.in_ok-x.ensures.ok.is_open c.if-x.false c.in_ok-x.ensures.ok.there (formed c.args.table.bytes.now c.args.table.formed).sites) ∙ rw full)
 
 pub returns-then-not-has_room : goal.returns-then-not-has_room
 unfolding roomy
 returns-then-not-has_room c =
-    let slot = sym c.has_slot.ensures ∙ c.if-not-has_slot.false in
-    let full = sym c.has_room.ensures ∙ c.if-not-has_room.true in
-    sym ((put_there c.args.table.bytes.now c.args.s c.args.key c.args.quality c.args.level (as_session c.in_ok-x.x) c.in_ok-x.ensures.ok.says c.partition-p.result c.partition-p.ensures.0 c.in_ok-x.ensures.ok.is_open c.if-x.false c.in_ok-x.ensures.ok.there (formed c.args.table.bytes.now c.args.table.formed).sites) ∙ rw (slot, full))
-
-pub to_pass-pass-requires : goal.to_pass-pass-requires
-to_pass-pass-requires c = (c.in_ok-x.ensures.ok.site, c.partition-p.ensures.1)
-
-pub node-requires : goal.node-requires
-node-requires c =
-    (search rules, c.in_ok-x.ensures.ok.site, c.partition-p.ensures.1)
+    let slot = rw c.node_of-node.ensures.0 at (sym c.has_slot.ensures ∙ c.if-not-has_slot.false) in
+    let full = rw c.node_of-node.ensures.0 at (sym c.has_room.ensures ∙ c.if-not-has_room.true) in
+    sym ((put_there c.args.table.bytes.now c.args.s c.args.key c.args.quality c.args.level (as_session c.in_ok-x.x) c.in_ok-x.ensures.ok.says c.node_of-node.result.partition c.node_of-node.ensures.1 c.in_ok-x.ensures.ok.is_open c.if-x.false c.in_ok-x.ensures.ok.there (formed c.args.table.bytes.now c.args.table.formed).sites) ∙ rw (slot, full))
 
 pub returns-then-stamp-pass : goal.returns-then-stamp-pass
 unfolding roomy
 returns-then-stamp-pass c =
-    let by_clock : answered (decode c.args.table.bytes.now) (PUT c.args.s c.args.key c.args.quality c.args.level) ≡ cond (ltb c.to_pass-pass.result c.clock-stamp.result) (stamped_by (seen_by c.args.table.bytes.now (as_session c.in_ok-x.x)) c.args.s c.args.key c.args.quality c.args.level c.partition-p.result c.clock-stamp.result) (wait c.in_ok-x.x.site c.to_pass-pass.result) =
-    let slot = sym c.has_slot.ensures ∙ c.if-not-has_slot.false in
-    let room = sym c.has_room.ensures ∙ c.if-not-has_room.false in
-    (put_there c.args.table.bytes.now c.args.s c.args.key c.args.quality c.args.level (as_session c.in_ok-x.x) c.in_ok-x.ensures.ok.says c.partition-p.result c.partition-p.ensures.0 c.in_ok-x.ensures.ok.is_open c.if-x.false c.in_ok-x.ensures.ok.there (formed c.args.table.bytes.now c.args.table.formed).sites) ∙ rw (slot, room, c.clock-stamp.ensures, c.node.ensures.0, c.to_pass-pass.ensures) in
+    let by_clock : answered (decode c.args.table.bytes.now) (PUT c.args.s c.args.key c.args.quality c.args.level) ≡ cond (ltb c.to_pass-pass.result c.clock-stamp.result) (stamped_by (seen_by c.args.table.bytes.now (as_session c.in_ok-x.x)) c.args.s c.args.key c.args.quality c.args.level c.node_of-node.result.partition c.clock-stamp.result) (wait c.in_ok-x.x.site c.to_pass-pass.result) =
+    let slot = rw c.node_of-node.ensures.0 at (sym c.has_slot.ensures ∙ c.if-not-has_slot.false) in
+    let room = rw c.node_of-node.ensures.0 at (sym c.has_room.ensures ∙ c.if-not-has_room.false) in
+    (put_there c.args.table.bytes.now c.args.s c.args.key c.args.quality c.args.level (as_session c.in_ok-x.x) c.in_ok-x.ensures.ok.says c.node_of-node.result.partition c.node_of-node.ensures.1 c.in_ok-x.ensures.ok.is_open c.if-x.false c.in_ok-x.ensures.ok.there (formed c.args.table.bytes.now c.args.table.formed).sites) ∙ rw (slot, room, c.clock-stamp.ensures, c.node.ensures.0, c.to_pass-pass.ensures, c.node_of-node.ensures.0) in
     sym (by_clock ∙ rw (le-ltb c.to_pass-pass.result c.clock-stamp.result c.if-stamp-pass.true))
 
 pub stored-requires : goal.stored-requires
-stored-requires c = c.in_ok-x.ensures.ok.site
+stored-requires c = sym c.node_of-node.ensures.0
 
 pub returns : goal.returns
 unfolding roomy
 returns c =
-    let by_clock : answered (decode c.args.table.bytes.now) (PUT c.args.s c.args.key c.args.quality c.args.level) ≡ cond (ltb c.to_pass-pass.result c.clock-stamp.result) (stamped_by (seen_by c.args.table.bytes.now (as_session c.in_ok-x.x)) c.args.s c.args.key c.args.quality c.args.level c.partition-p.result c.clock-stamp.result) (wait c.in_ok-x.x.site c.to_pass-pass.result) =
-    let slot = sym c.has_slot.ensures ∙ c.if-not-has_slot.false in
-    let room = sym c.has_room.ensures ∙ c.if-not-has_room.false in
-    (put_there c.args.table.bytes.now c.args.s c.args.key c.args.quality c.args.level (as_session c.in_ok-x.x) c.in_ok-x.ensures.ok.says c.partition-p.result c.partition-p.ensures.0 c.in_ok-x.ensures.ok.is_open c.if-x.false c.in_ok-x.ensures.ok.there (formed c.args.table.bytes.now c.args.table.formed).sites) ∙ rw (slot, room, c.clock-stamp.ensures, c.node.ensures.0, c.to_pass-pass.ensures) in
+    let by_clock : answered (decode c.args.table.bytes.now) (PUT c.args.s c.args.key c.args.quality c.args.level) ≡ cond (ltb c.to_pass-pass.result c.clock-stamp.result) (stamped_by (seen_by c.args.table.bytes.now (as_session c.in_ok-x.x)) c.args.s c.args.key c.args.quality c.args.level c.node_of-node.result.partition c.clock-stamp.result) (wait c.in_ok-x.x.site c.to_pass-pass.result) =
+    let slot = rw c.node_of-node.ensures.0 at (sym c.has_slot.ensures ∙ c.if-not-has_slot.false) in
+    let room = rw c.node_of-node.ensures.0 at (sym c.has_room.ensures ∙ c.if-not-has_room.false) in
+    (put_there c.args.table.bytes.now c.args.s c.args.key c.args.quality c.args.level (as_session c.in_ok-x.x) c.in_ok-x.ensures.ok.says c.node_of-node.result.partition c.node_of-node.ensures.1 c.in_ok-x.ensures.ok.is_open c.if-x.false c.in_ok-x.ensures.ok.there (formed c.args.table.bytes.now c.args.table.formed).sites) ∙ rw (slot, room, c.clock-stamp.ensures, c.node.ensures.0, c.to_pass-pass.ensures, c.node_of-node.ensures.0) in
     c.stored.ensures ∙ sym (by_clock ∙ rw (lt-ltb c.to_pass-pass.result c.clock-stamp.result c.if-stamp-pass.false, to_z-of_z w32 c.args.level (search rules)))

@@ -13,11 +13,6 @@ set_session-requires c =
     let f = subst (λ (w : Effect). FitsAll (changes_of w) c.args.t.now) c.in-Keep.is c.requires.1 in
     (c.requires.0, f.0.0, marks_few c.in-Keep.kept f.0.1)
 
-pub set_clock-requires : goal.set_clock-requires
-set_clock-requires c =
-    let f = subst (λ (w : Effect). FitsAll (changes_of w) c.args.t.now) c.in-Clock.is c.requires.1 in
-    (c.requires.0, omega (arith, f.0), omega (arith, f.0))
-
 pub publish-requires : goal.publish-requires
 publish-requires c = (subst (λ (w : Effect). FitsAll (changes_of w) c.args.t.now) c.in-Beat.is c.requires.1).0
 

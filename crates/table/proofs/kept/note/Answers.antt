@@ -13,19 +13,19 @@ use Rattle.table.proofs.kept.note.Goals as goal
 pub overflow_sub-last : goal.overflow_sub-last
 overflow_sub-last c =
     let a = c.args in
-    omega (arith, c.held.ensures, ap held_in c.node-n.ensures.0, c.requires.4)
+    omega (arith, c.held.ensures, ap held_in c.node-n.ensures.0, c.requires.2)
 
 pub later-newest-requires : goal.later-newest-requires
 later-newest-requires c =
-    (search rules, omega (arith, c.held.ensures, ap held_in c.node-n.ensures.0, c.requires.5), omega (arith, c.place-best.ensures, c.requires.6))
+    (search rules, omega (arith, c.held.ensures, ap held_in c.node-n.ensures.0, c.requires.3), omega (arith, c.place-best.ensures, c.requires.4))
 
 pub returns : goal.returns
 unfolding noted place_noted
 returns c =
     let a = c.args in
     let t = a.t.now in
-    let n = node_of (site_of t a.m) a.p in
+    let n = node_of (site_of t a.node.site) a.node.partition in
     let held : c.held.result ≡ held_in n = c.held.ensures ∙ ap held_in c.node-n.ensures.0 in
-    let lent = kept_lent t a.m a.p _ c.kept_at-off.ensures.0 c.requires.1 c.requires.2 in
-    kept_back t a.m a.p _ c.kept_at-off.ensures.0 _ (place_noted (setting_in t) n a.k)
+    let lent = kept_lent t a.node.site a.node.partition _ c.kept_at-off.ensures.0 a.node.four_sites a.node.four_partitions in
+    kept_back t a.node.site a.node.partition _ c.kept_at-off.ensures.0 _ (place_noted (setting_in t) n a.k)
     (c.store.ensures ∙ ap (put 1 _ a.k) (c.later-newest.ensures.0 (setting_in t) ∙ rw (c.node-n.ensures.0, held, c.place-best.ensures, lent)))

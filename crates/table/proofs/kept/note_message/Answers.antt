@@ -7,8 +7,8 @@ use Rattle.table.proofs.kept.note_message.Goals as goal
 pub note-requires : goal.note-requires
 note-requires c =
     let a = c.args in
-    let asked = subst (λ y. Notable a.m a.p y a.t.now) (message_told a.x _ c.in-Update.is) c.requires.3 in
-    (c.requires.0, c.requires.1, c.requires.2, asked.0, asked.1, asked.2, asked.3)
+    let asked = subst (λ y. Notable a.node.site a.node.partition y a.t.now) (message_told a.x _ c.in-Update.is) c.requires.1 in
+    (c.requires.0, asked.0, asked.1, asked.2, asked.3)
 
 pub returns-in-Update : goal.returns-in-Update
 unfolding message_noted
@@ -18,4 +18,4 @@ returns-in-Update c =
 pub returns-in-Heartbeat : goal.returns-in-Heartbeat
 unfolding message_noted
 returns-in-Heartbeat c =
-    sym (ap (λ y. message_noted c.args.m c.args.p y c.args.t.now) (message_told c.args.x _ c.in-Heartbeat.is))
+    sym (ap (λ y. message_noted c.args.node.site c.args.node.partition y c.args.t.now) (message_told c.args.x _ c.in-Heartbeat.is))

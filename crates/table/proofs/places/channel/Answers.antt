@@ -6,4 +6,4 @@ use Rattle.table.proofs.places.channel.Goals as goal
 pub returns : goal.returns
 returns c =
     let a = c.args in
-    (c.channel_of.ensures.0 ∙ ap (λ b. channel_of b a.p a.d) c.site.ensures.0, c.channel_of.ensures.1)
+    (c.channel_of.ensures.0 ∙ ap (λ b. channel_of b a.node.partition a.d) c.site.ensures.0, c.channel_of.ensures.1)

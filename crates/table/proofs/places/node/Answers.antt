@@ -6,4 +6,4 @@ use Rattle.table.proofs.places.node.Goals as goal
 pub returns : goal.returns
 returns c =
     let a = c.args in
-    (c.node_of.ensures.0 ∙ ap (λ b. node_of b a.p) c.site.ensures.0, c.node_of.ensures.1)
+    (c.node_of.ensures.0 ∙ ap (λ b. node_of b a.node.partition) c.site.ensures.0, c.node_of.ensures.1)
