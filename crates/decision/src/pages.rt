@@ -1,31 +1,32 @@
 // The decisions of a page: BEGIN, READ and END. Each takes the session, tests it from top to bottom as R60 has it, and decides.
-ghost use Rattle.std.specs.Prelude.{◌≡◌, ◌≤◌, ◌<◌, T};
+ghost use Rattle.std.specs.Prelude.{◌≡◌, ◌<◌, T};
 ghost use Rattle.protocol.specs.Event.{BEGIN, READ, END};
+ghost use Rattle.parts.specs.Pages.{keys_on};
 ghost use Rattle.table.specs.Parts.{Long};
 ghost use Rattle.table.specs.Decode.{decode};
 ghost use Rattle.lawful.specs.WellFormed.{well_formed};
-ghost use Rattle.outcome.specs.Marks.{keys_on};
 ghost use Rattle.outcome.specs.Decided.{decided_of};
 ghost use Rattle.decision.specs.Answered.{answered};
 
 use crate::lookup;
-use outcome::{Decided, answers, keeping, marks, raising};
+use outcome::{Decided, answers, keeping, raising};
+use parts::Keys;
 use protocol::{Answer, Reason};
 
-// BEGIN of a page of the first `count` keys, with the node of partition p as its coordinator.
-pub fn begin(t: &[u8], s: u8, p: u8, count: u8, keys: [u8; 8]) -> Result<Decided, Reason>
-    requires { Long t.now × T (well_formed t.now) × (s < 16) × (p < 4) × (count ≤ 8) }
-    ensures { decided_of result ≡ answered (decode t.now) (BEGIN s p (keys_on keys count)) }
+// BEGIN of a page of these keys, with the node of partition p as its coordinator.
+pub fn begin(t: &[u8], s: u8, p: u8, keys: Keys) -> Result<Decided, Reason>
+    requires { Long t.now × T (well_formed t.now) × (s < 16) × (p < 4) }
+    ensures { decided_of result ≡ answered (decode t.now) (BEGIN s p (keys_on keys)) }
 {
     let x = lookup::opened(t, s)?;
     if x.paged {
         return Err(Reason::PageOpen);
     }
-    if !marks::distinct(keys, count as usize) {
+    if !keys.distinct() {
         return Err(Reason::KeyTwice);
     }
     let coordinator = lookup::heard(t, x.site, p);
-    Ok(answers::kept(Answer::Done, s, keeping::begun(x, coordinator, keys, count)))
+    Ok(answers::kept(Answer::Done, s, keeping::begun(x, coordinator, keys)))
 }
 
 // R47, READ of key k: every entry of the node's vector is at least the page's, and then the newest candidate is shown. Where one is not it waits, for the lowest
@@ -38,7 +39,7 @@ pub fn read(t: &[u8], s: u8, k: u8) -> Result<Decided, Reason>
     if !x.paged {
         return Err(Reason::NoPageOpen);
     }
-    if !marks::awaited(x.keys, x.marks, x.count as usize, k) {
+    if !x.marks.awaited(k) {
         return Err(Reason::KeyNotAwaited);
     }
     let m = x.site;
@@ -59,7 +60,7 @@ pub fn end(t: &[u8], s: u8) -> Result<Decided, Reason>
     if !x.paged {
         return Err(Reason::NoPageOpen);
     }
-    if !marks::all_read(x.marks, x.count as usize) {
+    if !x.marks.all_read() {
         return Err(Reason::KeyUnread);
     }
     let gathered = x.gathered;

@@ -17,6 +17,7 @@ ghost use Rattle.steps.specs.Step.{gives, step_on, told};
 use decision::{pages, sessions, writes};
 use event::Event;
 use outcome::Decided;
+use parts::Keys;
 use protocol::{Answer, Reason};
 
 pub mod answers;
@@ -48,7 +49,7 @@ pub fn decide(t: &[u8], event: Event) -> Result<Decided, Reason>
             partition,
             count,
             keys,
-        } => pages::begin(t, session, partition, count, keys),
+        } => pages::begin(t, session, partition, Keys::new(keys, count)),
         Event::Read { session, key } => pages::read(t, session, key),
         Event::End { session } => pages::end(t, session),
         Event::Beat { site, partition } => writes::beat(t, site, partition),

@@ -46,15 +46,21 @@ put-requires c =
     let k = ranged c.args.t.now c.args.event _ c.in-Put.is c.requires.2 in
     (whole_long c.args.t.now c.requires.0, c.requires.1, ltb_yes k.0)
 
+pub new-requires : goal.new-requires
+unfolding ranges
+new-requires c =
+    let k = ranged c.args.t.now c.args.event _ c.in-Begin.is c.requires.2 in
+    let ks = tabulate c.in-Begin.count (λ i. get_or c.in-Begin.keys i 0) in
+    let few : length ks ≤ 8 = leb_yes (and_yes (ltb 0 (length ks)) (leb (length ks) 8) k.1.1.0).1 in
+    omega (arith, few, tab_length c.in-Begin.count (λ i. get_or c.in-Begin.keys i 0))
+
 pub begin-requires : goal.begin-requires
 unfolding ranges
 begin-requires c =
     let k = ranged c.args.t.now c.args.event _ c.in-Begin.is c.requires.2 in
     let F = formed c.args.t.now c.requires.1 in
     let p = ltb_yes k.0 in
-    let ks = tabulate c.in-Begin.count (λ i. get_or c.in-Begin.keys i 0) in
-    let few : length ks ≤ 8 = leb_yes (and_yes (ltb 0 (length ks)) (leb (length ks) 8) k.1.1.0).1 in
-    (whole_long c.args.t.now c.requires.0, c.requires.1, ltb_yes k.1.0, omega arith, omega (arith, few, tab_length c.in-Begin.count (λ i. get_or c.in-Begin.keys i 0)))
+    (whole_long c.args.t.now c.requires.0, c.requires.1, ltb_yes k.1.0, omega arith)
 
 pub read-requires : goal.read-requires
 unfolding ranges

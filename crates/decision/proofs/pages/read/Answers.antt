@@ -50,7 +50,7 @@ newest-found-requires c =
     (c.requires.0, c.requires.1, c.in_ok-x.ensures.ok.site, c.partition-p.ensures.1)
 
 pub read_on-requires : goal.read_on-requires
-read_on-requires c = (c.in_ok-x.ensures.ok.few, c.newest-found.ensures.1)
+read_on-requires c = c.newest-found.ensures.1
 
 pub returns : goal.returns
 returns c =
