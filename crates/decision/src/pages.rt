@@ -1,27 +1,28 @@
 // The decisions of a page: BEGIN, READ and END. Each takes the session, tests it from top to bottom as R60 has it, and decides.
-ghost use Rattle.std.specs.Prelude.{◌≡◌, ◌≤◌, ◌<◌};
+ghost use Rattle.std.specs.Prelude.{◌≡◌, ◌<◌};
 ghost use Rattle.protocol.specs.Event.{BEGIN, READ, END};
+ghost use Rattle.parts.specs.Pages.{keys_on};
 ghost use Rattle.table.specs.Decode.{decode};
-ghost use Rattle.outcome.specs.Marks.{keys_on};
 ghost use Rattle.outcome.specs.Decided.{decided_of};
 ghost use Rattle.decision.specs.Answered.{answered};
 
 use crate::lookup;
 use lawful::Table;
-use outcome::{Decided, answers, keeping, marks, raising};
+use outcome::{Decided, answers, keeping, raising};
+use parts::Keys;
 use protocol::limits::NodeAt;
 use protocol::{Answer, Reason};
 
-// BEGIN of a page of the first `count` keys, with the node of partition p as its coordinator.
-pub fn begin(table: Table, s: u8, p: u8, count: u8, keys: [u8; 8]) -> Result<Decided, Reason>
-    requires { (s < 16) × (p < 4) × (count ≤ 8) }
-    ensures { decided_of result ≡ answered (decode table.entry.bytes.now) (BEGIN s p (keys_on keys count)) }
+// BEGIN of a page of these keys, with the node of partition p as its coordinator.
+pub fn begin(table: Table, s: u8, p: u8, keys: Keys) -> Result<Decided, Reason>
+    requires { (s < 16) × (p < 4) }
+    ensures { decided_of result ≡ answered (decode table.entry.bytes.now) (BEGIN s p (keys_on keys)) }
 {
     let x = lookup::opened(table, s)?;
     if x.paged {
         return Err(Reason::PageOpen);
     }
-    if !marks::distinct(keys, count as usize) {
+    if !keys.distinct() {
         return Err(Reason::KeyTwice);
     }
     let node = NodeAt {
@@ -29,7 +30,7 @@ pub fn begin(table: Table, s: u8, p: u8, count: u8, keys: [u8; 8]) -> Result<Dec
         partition: p,
     };
     let coordinator = lookup::heard(table, node);
-    Ok(answers::kept(Answer::Done, s, keeping::begun(x, coordinator, keys, count)))
+    Ok(answers::kept(Answer::Done, s, keeping::begun(x, coordinator, keys)))
 }
 
 // R47, READ of key k: every entry of the node's vector is at least the page's, and then the newest candidate is shown. Where one is not it waits, for the lowest
@@ -42,7 +43,7 @@ pub fn read(table: Table, s: u8, k: u8) -> Result<Decided, Reason>
     if !x.paged {
         return Err(Reason::NoPageOpen);
     }
-    if !marks::awaited(x.keys, x.marks, x.count as usize, k) {
+    if !x.marks.awaited(k) {
         return Err(Reason::KeyNotAwaited);
     }
     let page = x.snapshot;
@@ -62,7 +63,7 @@ pub fn end(table: Table, s: u8) -> Result<Decided, Reason>
     if !x.paged {
         return Err(Reason::NoPageOpen);
     }
-    if !marks::all_read(x.marks, x.count as usize) {
+    if !x.marks.all_read() {
         return Err(Reason::KeyUnread);
     }
     let gathered = x.gathered;

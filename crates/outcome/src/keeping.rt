@@ -1,14 +1,14 @@
 // Sessions as decisions leave them, by value. In order: closed and opened, another vector, and a page that is begun, read on and ended.
-ghost use Rattle.std.specs.Prelude.{◌≡◌, ◌≤◌, ◌<◌};
+ghost use Rattle.std.specs.Prelude.{◌≡◌, ◌<◌};
 ghost use Rattle.vector.specs.Meaning.{as_vec};
 ghost use Rattle.protocol.specs.State.{no_page, closed, opened, with_vec, with_page};
 ghost use Rattle.protocol.specs.Serve.{begun, read_on};
+ghost use Rattle.parts.specs.Pages.{keys_on};
 ghost use Rattle.parts.specs.Meaning.{as_session};
 ghost use Rattle.search.specs.Found.{found_of, Sited};
-ghost use Rattle.outcome.specs.Marks.{keys_on};
 
-use crate::{answers, marks};
-use parts::Session;
+use crate::answers;
+use parts::{Keys, Marks, Session};
 use record::Record;
 use vector::Vector;
 
@@ -21,9 +21,7 @@ pub fn closed() -> Session
         site: 0,
         vec: zero,
         paged: false,
-        count: 0,
-        keys: [0; 8],
-        marks: [false; 8],
+        marks: Marks::unread(Keys::new([0; 8], 0)),
         snapshot: zero,
         gathered: zero,
     }
@@ -47,17 +45,14 @@ pub fn with_vector(x: Session, vec: Vector) -> Session
     Session { vec, ..x }
 }
 
-// With a page of the first `count` keys, none read, begun by a coordinator that has this vector.
-pub fn begun(x: Session, coordinator: Vector, keys: [u8; 8], count: u8) -> Session
-    requires { count ≤ 8 }
-    ensures { as_session result ≡ with_page (as_session x) (begun (as_vec coordinator) (as_session x).vec (keys_on keys count)) }
+// With a page of these keys, none read, begun by a coordinator that has this vector.
+pub fn begun(x: Session, coordinator: Vector, keys: Keys) -> Session
+    ensures { as_session result ≡ with_page (as_session x) (begun (as_vec coordinator) (as_session x).vec (keys_on keys)) }
 {
     Session {
         paged: true,
         snapshot: coordinator.larger_of(x.vec),
-        keys,
-        marks: [false; 8],
-        count,
+        marks: Marks::unread(keys),
         gathered: Vector::zero(),
         ..x
     }
@@ -65,12 +60,12 @@ pub fn begun(x: Session, coordinator: Vector, keys: [u8; 8], count: u8) -> Sessi
 
 // With key k of its page read, and gathered what was found.
 pub fn read_on(x: Session, k: u8, found: Option<Record>) -> Session
-    requires { (x.count ≤ 8) × Sited found }
+    requires { Sited found }
     ensures { as_session result ≡ with_page (as_session x) (read_on (as_session x).page k (found_of found)) }
 {
     Session {
         paged: true,
-        marks: marks::read(x.keys, x.marks, x.count as usize, k),
+        marks: x.marks.with_read(k),
         gathered: answers::raised_by(x.gathered, found),
         ..x
     }

@@ -1,5 +1,5 @@
-// What a decision is made of, by value: its answer, and what is then carried out, with the session as it is left. Here are the values. The files: marks (the keys of
-// a page and which of them were read), keeping (a session opened, closed, with a page begun, read on, ended), raising (a session's vector), answers.
+// What a decision is made of, by value: its answer, and what is then carried out, with the session as it is left. Here are the values. The files: keeping (a
+// session opened, closed, with a page begun, read on, ended), raising (a session's vector), answers.
 
 #![tactic(auto)]
 
@@ -10,7 +10,6 @@ use record::Letter;
 
 pub mod answers;
 pub mod keeping;
-pub mod marks;
 pub mod raising;
 
 // What is then carried out, with all that it writes.

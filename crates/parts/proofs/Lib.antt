@@ -1,6 +1,7 @@
--- Lengths; what each part's bytes say after a change; the keys and marks of a page in two arrays.
+-- Lengths; what each part's bytes say after a change; the keys and marks of a page, as a loop goes over them and in bytes.
 pub mod Lengths
 pub mod NodeBytes
 pub mod ChannelBytes
 pub mod SessionBytes
-pub mod Marks
+pub mod Backward
+pub mod MarkBytes

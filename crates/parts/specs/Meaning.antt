@@ -1,9 +1,8 @@
 -- The session that the code holds, as the protocol's.
-use Rattle.std.specs.Prelude.{false, get_or}
-use Rattle.codec.specs.Tabulate.{tabulate}
 use Rattle.vector.specs.Meaning.{as_vec}
 use Rattle.protocol.specs.State as State
 use Rattle.parts.specs.declared.Session.{Session}
+use Rattle.parts.specs.Pages.{marks_on}
 
 abbrev pub as_session : Session → State.Session
 as_session x = record {
@@ -13,7 +12,7 @@ as_session x = record {
   page = record {
     is_open = x.paged;
     vec = as_vec x.snapshot;
-    marks = tabulate x.count (λ i. record { key = get_or x.keys i 0; read = get_or x.marks i false });
+    marks = marks_on x.marks;
     gathered = as_vec x.gathered;
   };
 }

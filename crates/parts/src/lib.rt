@@ -1,24 +1,40 @@
 // The parts of a table, each by its own bytes and wherever it stands: a node's 1,856, a channel's 464 and a session's 128. Each file has what a part's bytes say
-// and how they change. Here is the session that the code holds.
+// and how they change; pages has what is asked of a page's keys and marks. Here are those keys and marks, and the session that the code holds.
 
 #![tactic(auto)]
+
+ghost use Rattle.std.specs.Prelude.{◌≤◌};
 
 use vector::Vector;
 
 pub mod channels;
 pub mod nodes;
+pub mod pages;
 pub mod sessions;
 
-// A session and its page: `snapshot` is the page's vector, and the keys and marks below `count` are in use.
+// The keys of a page: the first `count` of eight are in use.
+#[derive(Clone, Copy)]
+pub struct Keys {
+    pub keys: [u8; 8],
+    pub count: u8,
+    ghost few: { count ≤ 8 },
+}
+
+// The keys of a page, and which of them were read.
+#[derive(Clone, Copy)]
+pub struct Marks {
+    pub page: Keys,
+    pub read: [bool; 8],
+}
+
+// A session and its page: `snapshot` is the page's vector.
 #[derive(Clone, Copy)]
 pub struct Session {
     pub open: bool,
     pub site: u8,
     pub vec: Vector,
     pub paged: bool,
-    pub count: u8,
-    pub keys: [u8; 8],
-    pub marks: [bool; 8],
+    pub marks: Marks,
     pub snapshot: Vector,
     pub gathered: Vector,
 }

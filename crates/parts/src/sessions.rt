@@ -3,21 +3,35 @@
 ghost use Rattle.std.specs.Prelude.{◌≡◌, false, ℕ, ◌+◌, ◌≤◌, ◌<◌, eqb, length, get_or};
 ghost use Rattle.codec.specs.Le.{load, put};
 ghost use Rattle.codec.specs.Fields.{put_all};
-ghost use Rattle.parts.specs.Session.{session_in, flag, put_marks, head_fields, put_session};
+ghost use Rattle.codec.specs.Tabulate.{tabulate};
+ghost use Rattle.parts.specs.Session.{mark_at, session_in, flag, put_marks, head_fields, put_session};
+ghost use Rattle.parts.specs.Pages.{marks_on};
 ghost use Rattle.parts.specs.Meaning.{as_session};
 
-use crate::Session;
+use crate::{Keys, Marks, Session};
 use codec::Number;
 
-fn load_marks(b: &[u8]) -> [bool; 8]
+fn load_read(b: &[u8]) -> [bool; 8]
     requires { length b.now ≡ 128 }
     ensures { (i : ℕ) → i < 8 → get_or result i false ≡ eqb (load 1 b.now (16 + i)) 1 }
 {
-    let mut marks = [false; 8];
-    for (i, mark) in marks.iter_mut().enumerate() {
+    let mut read = [false; 8];
+    for (i, mark) in read.iter_mut().enumerate() {
         *mark = u8::load(b, 16 + i) == 1;
     }
-    marks
+    read
+}
+
+fn load_marks(b: &[u8]) -> Marks
+    requires { (length b.now ≡ 128) × (load 1 b.now 3 ≤ 8) }
+    ensures { marks_on result ≡ tabulate (load 1 b.now 3) (mark_at b.now) }
+{
+    let count = u8::load(b, 3);
+    let keys = codec::load_eight(b, 8);
+    Marks {
+        page: Keys { keys, count },
+        read: load_read(b),
+    }
 }
 
 pub fn load(b: &[u8]) -> Session
@@ -27,8 +41,6 @@ pub fn load(b: &[u8]) -> Session
     let open = u8::load(b, 0) == 1;
     let site = u8::load(b, 1);
     let paged = u8::load(b, 2) == 1;
-    let count = u8::load(b, 3);
-    let keys = codec::load_eight(b, 8);
     let marks = load_marks(b);
     let vec = vector::load_vector(b, 32);
     let snapshot = vector::load_vector(b, 64);
@@ -38,8 +50,6 @@ pub fn load(b: &[u8]) -> Session
         site,
         vec,
         paged,
-        count,
-        keys,
         marks,
         snapshot,
         gathered,
@@ -54,15 +64,14 @@ fn store_mark(b: &mut [u8], i: usize, key: u8, read: bool)
     u8::from(read).store(b, 16 + i);
 }
 
-fn store_marks(b: &mut [u8], x: Session)
-    requires { (length b.old ≡ 128) × (x.count ≤ 8) }
-    ensures { b.new ≡ put_marks b.old 0 (as_session x).page.marks }
+fn store_marks(b: &mut [u8], x: Marks)
+    requires { length b.old ≡ 128 }
+    ensures { b.new ≡ put_marks b.old 0 (marks_on x) }
 {
-    let keys = x.keys;
-    let marks = x.marks;
-    let count = x.count as usize;
+    let page = x.page;
+    let count = page.count as usize;
     for i in 0..count {
-        store_mark(b, i, keys[i], marks[i]);
+        store_mark(b, i, page.keys[i], x.read[i]);
     }
 }
 
@@ -74,19 +83,20 @@ fn store_head(b: &mut [u8], x: Session)
     u8::from(x.open).store(b, 0);
     x.site.store(b, 1);
     u8::from(x.paged).store(b, 2);
-    x.count.store(b, 3);
+    x.marks.page.count.store(b, 3);
 }
 
 pub fn store(b: &mut [u8], x: Session)
-    requires { (length b.old ≡ 128) × (x.count ≤ 8) }
+    requires { length b.old ≡ 128 }
     ensures { b.new ≡ put_session (as_session x) b.old }
 {
     let vec = x.vec;
     let snapshot = x.snapshot;
     let gathered = x.gathered;
+    let marks = x.marks;
     store_head(b, x);
     vector::store_vector(b, 32, vec);
     vector::store_vector(b, 64, snapshot);
     vector::store_vector(b, 96, gathered);
-    store_marks(b, x);
+    store_marks(b, marks);
 }

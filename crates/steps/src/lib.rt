@@ -18,6 +18,7 @@ use decision::{pages, sessions, writes};
 use event::Event;
 use lawful::Table;
 use outcome::Decided;
+use parts::Keys;
 use protocol::limits::NodeAt;
 use protocol::{Answer, Reason};
 
@@ -50,7 +51,7 @@ pub fn decide(table: Table, event: Event) -> Result<Decided, Reason>
             partition,
             count,
             keys,
-        } => pages::begin(table, session, partition, count, keys),
+        } => pages::begin(table, session, partition, Keys::new(keys, count)),
         Event::Read { session, key } => pages::read(table, session, key),
         Event::End { session } => pages::end(table, session),
         Event::Beat { site, partition } => writes::beat(table, NodeAt { site, partition }),

@@ -4,7 +4,7 @@
 
 #![tactic(auto)]
 
-ghost use Rattle.std.specs.Prelude.{◌≡◌, ◌-◌, ◌≤◌, ◌<◌};
+ghost use Rattle.std.specs.Prelude.{◌≡◌, ◌-◌, ◌<◌};
 ghost use Rattle.protocol.specs.Meaning.{setting_of};
 ghost use Rattle.protocol.specs.Change.{SetSession, SetClock, Publish, Receive};
 ghost use Rattle.record.specs.Meaning.{as_message};
@@ -46,7 +46,7 @@ pub fn setting(t: &[u8]) -> Setting
 }
 
 pub fn set_session(t: &mut [u8], s: usize, x: Session)
-    requires { Long t.old × (s < 16) × (x.count ≤ 8) }
+    requires { Long t.old × (s < 16) }
     ensures { t.new ≡ put_change (SetSession s (as_session x)) t.old }
 {
     let off = places::session_at(s);

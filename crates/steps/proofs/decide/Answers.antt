@@ -54,15 +54,21 @@ put-requires c =
     let k = ranged c.args.table.bytes.now c.args.event _ c.in-Put.is c.requires in
     ltb_yes k.0
 
+pub new-requires : goal.new-requires
+unfolding ranges
+new-requires c =
+    let k = ranged c.args.table.bytes.now c.args.event _ c.in-Begin.is c.requires in
+    let ks = tabulate c.in-Begin.count (λ i. get_or c.in-Begin.keys i 0) in
+    let few : length ks ≤ 8 = leb_yes (and_yes (ltb 0 (length ks)) (leb (length ks) 8) k.1.1.0).1 in
+    omega (arith, few, tab_length c.in-Begin.count (λ i. get_or c.in-Begin.keys i 0))
+
 pub begin-requires : goal.begin-requires
 unfolding ranges
 begin-requires c =
     let k = ranged c.args.table.bytes.now c.args.event _ c.in-Begin.is c.requires in
     let F = formed c.args.table.bytes.now c.args.table.formed in
     let p = ltb_yes k.0 in
-    let ks = tabulate c.in-Begin.count (λ i. get_or c.in-Begin.keys i 0) in
-    let few : length ks ≤ 8 = leb_yes (and_yes (ltb 0 (length ks)) (leb (length ks) 8) k.1.1.0).1 in
-    (ltb_yes k.1.0, omega arith, omega (arith, few, tab_length c.in-Begin.count (λ i. get_or c.in-Begin.keys i 0)))
+    (ltb_yes k.1.0, omega arith)
 
 pub read-requires : goal.read-requires
 unfolding ranges

@@ -4,10 +4,9 @@ use native.Mathlib.Omega.{arith}
 use mathlib.Core.Path.{sym, ap, subst, ◌∙◌}
 use Rattle.codec.specs.Le.{load}
 use Rattle.parts.specs.Session.{session_in}
-use Rattle.table.specs.Parts.{session_of}
 use Rattle.lawful.proofs.Facts.{formed}
 use Rattle.decision.proofs.Formed.{session-marks}
-use Rattle.decision.proofs.Told.{count_told, here_told}
+use Rattle.decision.proofs.Told.{here_told}
 use borrow.Author.Rules.{rules}
 use Rattle.decision.proofs.lookup.session.Goals as goal
 
@@ -23,7 +22,6 @@ returns c =
     let told = c.load.ensures ∙ ap session_in c.session.ensures.0 in
     let there = here_told c.load.result t c.args.table.formed a.s c.requires told in (
       told,
-      subst (λ n. n ≤ 8) (sym (count_told c.load.result (session_of t a.s) told)) (session-marks t c.args.table.formed a.s c.requires),
       λ o. let here = there o in let F = formed t c.args.table.formed in omega (arith, F.sites),
       there,
     )

@@ -1,9 +1,7 @@
 -- `outcome::keeping::begun` meets its contract: the session as it was, but for its page.
 use Rattle.protocol.specs.Serve.{begun}
-use Rattle.outcome.proofs.Backward.{marks-begun}
 use Rattle.outcome.proofs.keeping.begun.Goals as goal
 
 pub returns : goal.returns
 unfolding begun
-returns c =
-    rw (c.larger_of.ensures, c.zero.ensures, marks-begun c.args.keys c.args.count c.requires)
+returns c = rw (c.larger_of.ensures, c.zero.ensures, c.unread.ensures)

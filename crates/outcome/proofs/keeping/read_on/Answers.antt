@@ -4,4 +4,4 @@ use Rattle.outcome.proofs.keeping.read_on.Goals as goal
 
 pub returns : goal.returns
 unfolding read_on
-returns c = rw (c.raised_by.ensures, c.read.ensures)
+returns c = rw (c.raised_by.ensures, c.with_read.ensures)

@@ -1,7 +1,7 @@
 -- `parts::sessions::store_head` meets its contract: four stores, the last first.
 use mathlib.Core.Path.{◌∙◌}
 use Rattle.codec.proofs.Tabulate.{tab_length}
-use Rattle.parts.proofs.Marks.{flag_is}
+use Rattle.parts.proofs.MarkBytes.{flag_is}
 use Rattle.parts.proofs.sessions.store_head.Goals as goal
 
 pub returns : goal.returns

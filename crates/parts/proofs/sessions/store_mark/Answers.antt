@@ -1,6 +1,6 @@
 -- `parts::sessions::store_mark` meets its contract, by its two stores.
 use mathlib.Core.Path.{◌∙◌}
-use Rattle.parts.proofs.Marks.{flag_is}
+use Rattle.parts.proofs.MarkBytes.{flag_is}
 use Rattle.parts.proofs.sessions.store_mark.Goals as goal
 
 pub returns : goal.returns

@@ -1,5 +1,5 @@
--- Lists of a function's values as a loop goes over them from the last to the first: none, one more in front. Then what is done to each mark of
--- such a list.
+-- Lists of a function's values as a loop goes over them from the last to the first: those that it has passed, none, one more in front. Then what is done to each
+-- mark of such a list.
 use Prim.Native.Nat.{ℕ, zero, suc, ◌+◌, ◌-◌, ◌≤◌, ◌<◌}
 use native.Mathlib.Nat.{add-zero}
 use native.Mathlib.Omega.{arith}
@@ -12,8 +12,12 @@ use Rattle.codec.specs.Tabulate.{tabulate}
 use Rattle.codec.proofs.Tabulate.{tab_ext}
 use Rattle.protocol.specs.State.{Mark}
 use Rattle.protocol.specs.Serve.{unread, mark_read}
-use Rattle.parts.proofs.Marks.{from_to}
-use Rattle.outcome.specs.Marks.{keys_on, marks_on}
+use Rattle.parts.specs.declared.Keys.{Keys}
+use Rattle.parts.specs.Pages.{keys_on, marks_on}
+
+-- those from i to n
+abbrev pub from_to {ℓ} : {A : Type ℓ} → ℕ → ℕ → (ℕ → A) → List A
+from_to i n f = tabulate (n - i) (λ k. f (i + k))
 
 module _ {A : Type 0} (f : ℕ → A) (n : ℕ) where
   pub from_none : from_to n n f ≡ []
@@ -43,7 +47,8 @@ marks-unread zero f = refl
 marks-unread (suc n) f = rw (marks-unread n (λ i. f (suc i)))
 
 -- a page begins with no key read
-pub marks-begun : (keys : List ℕ) (n : ℕ) → n ≤ 8 → marks_on keys (replicate 8 false) n ≡ unread (keys_on keys n)
-marks-begun keys n h =
-    tab_ext n (λ i. record { key = get_or keys i 0; read = get_or (replicate 8 false) i false }) (λ i. record { key = get_or keys i 0; read = false }) (λ i b. rw (get_or-replicate 8 i false false (omega arith)))
-    ∙ sym (marks-unread n (λ i. get_or keys i 0))
+pub marks-begun : (x : Keys) → marks_on (record { page = x; read = replicate 8 false }) ≡ unread (keys_on x)
+marks-begun x =
+    let few = x.few in
+    tab_ext x.count (λ i. record { key = get_or x.keys i 0; read = get_or (replicate 8 false) i false }) (λ i. record { key = get_or x.keys i 0; read = false }) (λ i b. rw (get_or-replicate 8 i false false (omega arith)))
+    ∙ sym (marks-unread x.count (λ i. get_or x.keys i 0))

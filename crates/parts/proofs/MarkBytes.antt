@@ -1,5 +1,4 @@
--- The keys and marks of a page, in two arrays. In order: what the arrays say; the byte of a flag; the marks put one
--- after the other, as the code counts; the marks that are loaded.
+-- The keys and marks of a page, in bytes. In order: the byte of a flag; the marks put one after the other, as the code counts; the marks that are loaded.
 use Prim.Native.Nat.{ℕ, suc, ◌+◌, ◌-◌, ◌≤◌, ◌<◌}
 use native.Mathlib.Nat.{add-zero}
 use native.Mathlib.Numerals.{add-one}
@@ -14,15 +13,10 @@ use Rattle.codec.specs.Le.{load, put}
 use Rattle.codec.specs.Tabulate.{tabulate}
 use Rattle.codec.proofs.Tabulate.{tab_ext}
 use Rattle.protocol.specs.State.{Mark}
+use Rattle.parts.specs.declared.Marks.{Marks}
+use Rattle.parts.specs.Pages.{marks_on}
 use Rattle.parts.specs.Session.{flag, mark_at, put_marks}
-
--- what the two arrays say of mark i
-abbrev pub mark_of : List ℕ → List Bool → ℕ → Mark
-mark_of keys marks i = record { key = get_or keys i 0; read = get_or marks i false }
-
--- those from i to n
-abbrev pub from_to {ℓ} : {A : Type ℓ} → ℕ → ℕ → (ℕ → A) → List A
-from_to i n f = tabulate (n - i) (λ k. f (i + k))
+use Rattle.parts.proofs.Backward.{from_to}
 
 -- a flag is the byte that a `bool` converts to
 pub flag_is : (b : Bool) → bool_byte b ≡ flag b
@@ -44,8 +38,10 @@ marks-step b i n f h =
     let rest : from_to (suc i) n f ≡ tabulate (n - suc i) (λ k. f (i + suc k)) = tab_ext (n - suc i) _ _ (λ k b. ap f (omega arith)) in
     rw (add-one i, rest, e, add-zero i)
 
--- ---- the marks that two loaded arrays say
+-- ---- the marks that are loaded
 
-pub marks_loaded : (b keys : List ℕ) (marks : List Bool) (n : ℕ) → n ≤ 8 → ((i : ℕ) → i < 8 → get_or keys i 0 ≡ load 1 b (8 + i)) → ((i : ℕ) → i < 8 → get_or marks i false ≡ eqb (load 1 b (16 + i)) 1) → tabulate n (mark_of keys marks) ≡ tabulate n (mark_at b)
+pub marks_loaded : (b : List ℕ) (x : Marks) → ((i : ℕ) → i < 8 → get_or x.page.keys i 0 ≡ load 1 b (8 + i)) → ((i : ℕ) → i < 8 → get_or x.read i false ≡ eqb (load 1 b (16 + i)) 1) → x.page.count ≡ load 1 b 3 → marks_on x ≡ tabulate (load 1 b 3) (mark_at b)
 unfolding mark_at
-marks_loaded b keys marks n h ks ms = tab_ext n _ _ (λ i l. rw (ks i (omega arith), ms i (omega arith)))
+marks_loaded b x ks ms e =
+    let few = x.page.few in
+    rw (← e) (tab_ext x.page.count _ _ (λ i l. rw (ks i (omega arith), ms i (omega arith))))

@@ -1,2 +1,0 @@
--- A page's marks as a loop goes over them.
-pub mod Backward

@@ -1,9 +1,0 @@
-use mathlib.Core.Path.{◌≡◌}
-use mathlib.Core.Bool.{false, ◌||◌}
-use Prim.Native.Nat.{ℕ, ◌<◌}
-use lib.Dec.{eqb}
-use lib.ListN.{length, get_or}
-use Rattle.outcome.proofs.marks.read.Given as goal
-
-abbrev pub invariant-loop-i : goal.invariant-loop-i
-invariant-loop-i l = (length l.read ≡ 8) × ((j : ℕ) → j < l.i → get_or l.read j false ≡ (get_or l.marks j false || eqb (get_or l.keys j 0) l.k))

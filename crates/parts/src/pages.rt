@@ -1,0 +1,94 @@
+// The keys of a page and their marks, of which the first `count` places are in use. In order: keys, and tests of those that a page begins with; marks of a page that
+// begins, tests of marks, and a key that is read. Each test goes from the last place to the first, as its definition has it.
+ghost use Rattle.std.specs.Prelude.{◌≡◌, ◌≤◌, get_or};
+ghost use Rattle.codec.specs.Lists.{has};
+ghost use Rattle.codec.specs.Tabulate.{tabulate};
+ghost use Rattle.protocol.specs.Needs.{distinct, awaited, all_read};
+ghost use Rattle.protocol.specs.Serve.{unread, mark_read};
+ghost use Rattle.parts.specs.Pages.{keys_on, keys_from, marks_on};
+
+use crate::{Keys, Marks};
+
+impl Keys {
+    // The first `count` of eight.
+    pub fn new(keys: [u8; 8], count: u8) -> Keys
+        requires { count ≤ 8 }
+        ensures { keys_on result ≡ tabulate count (λ i. get_or keys i 0) }
+    {
+        Keys { keys, count }
+    }
+
+    // Whether one of the keys from place `from` on is k.
+    fn holds(self, from: usize, k: u8) -> bool
+        requires { from ≤ self.count }
+        ensures { result ≡ has (keys_from self from) k }
+    {
+        let count = self.count as usize;
+        let mut any = false;
+        for i in (from..count).rev() {
+            any |= self.keys[i] == k;
+        }
+        any
+    }
+
+    // Whether no key stands twice (R46).
+    pub fn distinct(self) -> bool
+        ensures { result ≡ distinct (keys_on self) }
+    {
+        let count = self.count as usize;
+        let mut all = true;
+        for i in (0..count).rev() {
+            all &= !self.holds(i + 1, self.keys[i]);
+        }
+        all
+    }
+}
+
+impl Marks {
+    // The marks of a page that begins: no key is read.
+    pub fn unread(page: Keys) -> Marks
+        ensures { marks_on result ≡ unread (keys_on page) }
+    {
+        Marks {
+            page,
+            read: [false; 8],
+        }
+    }
+
+    // Whether key k is on the page and not read yet.
+    pub fn awaited(self, k: u8) -> bool
+        ensures { result ≡ awaited k (marks_on self) }
+    {
+        let count = self.page.count as usize;
+        let mut any = false;
+        for i in (0..count).rev() {
+            any |= (self.page.keys[i] == k) & !self.read[i];
+        }
+        any
+    }
+
+    // Whether every key of the page is read.
+    pub fn all_read(self) -> bool
+        ensures { result ≡ all_read (marks_on self) }
+    {
+        let count = self.page.count as usize;
+        let mut all = true;
+        for i in (0..count).rev() {
+            all &= self.read[i];
+        }
+        all
+    }
+
+    // The marks once key k is read.
+    pub fn with_read(self, k: u8) -> Marks
+        ensures { marks_on result ≡ mark_read k (marks_on self) }
+    {
+        let page = self.page;
+        let count = page.count as usize;
+        let mut read = self.read;
+        for i in 0..count {
+            read[i] = self.read[i] | (page.keys[i] == k);
+        }
+        Marks { page, read }
+    }
+}
