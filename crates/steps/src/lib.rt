@@ -49,7 +49,7 @@ pub fn decide(t: &[u8], event: Event) -> Result<Decided, Reason>
             partition,
             count,
             keys,
-        } => pages::begin(t, session, partition, Keys::new(keys, count)),
+        } => pages::begin(t, session, partition, Keys { keys, count }),
         Event::Read { session, key } => pages::read(t, session, key),
         Event::End { session } => pages::end(t, session),
         Event::Beat { site, partition } => writes::beat(t, site, partition),
