@@ -4,9 +4,6 @@ use mathlib.Core.Path.{◌≡◌, sym, ap, subst, ◌∙◌}
 use mathlib.Core.Bool.{true}
 use mathlib.Core.List.{List}
 use lib.Dec.{T}
-use lib.ListN.{length}
-use Rattle.codec.specs.Le.{load}
-use Rattle.codec.proofs.Tabulate.{tab_length}
 use Rattle.protocol.specs.State as State
 use Rattle.parts.specs.declared.Session.{Session}
 use Rattle.parts.specs.Session.{session_in}

@@ -16,12 +16,16 @@ pub fn closed() -> Session
     ensures { as_session result ≡ closed }
 {
     let zero = Vector::zero();
+    let none = Keys {
+        keys: [0; 8],
+        count: 0,
+    };
     Session {
         open: false,
         site: 0,
         vec: zero,
         paged: false,
-        marks: Marks::unread(Keys::new([0; 8], 0)),
+        marks: Marks::unread(none),
         snapshot: zero,
         gathered: zero,
     }

@@ -1,8 +1,7 @@
-// The keys of a page and their marks, of which the first `count` places are in use. In order: keys, and tests of those that a page begins with; marks of a page that
-// begins, tests of marks, and a key that is read. Each test goes from the last place to the first, as its definition has it.
-ghost use Rattle.std.specs.Prelude.{◌≡◌, ◌≤◌, get_or};
+// The keys of a page and their marks, of which the first `count` places are in use. In order: tests of the keys that a page begins with; then the marks of a page
+// that begins, tests of marks, and a key that is read. Each test goes from the last place to the first, as its definition has it.
+ghost use Rattle.std.specs.Prelude.{◌≡◌, ◌≤◌};
 ghost use Rattle.codec.specs.Lists.{has};
-ghost use Rattle.codec.specs.Tabulate.{tabulate};
 ghost use Rattle.protocol.specs.Needs.{distinct, awaited, all_read};
 ghost use Rattle.protocol.specs.Serve.{unread, mark_read};
 ghost use Rattle.parts.specs.Pages.{keys_on, keys_from, marks_on};
@@ -10,14 +9,6 @@ ghost use Rattle.parts.specs.Pages.{keys_on, keys_from, marks_on};
 use crate::{Keys, Marks};
 
 impl Keys {
-    // The first `count` of eight.
-    pub fn new(keys: [u8; 8], count: u8) -> Keys
-        requires { count ≤ 8 }
-        ensures { keys_on result ≡ tabulate count (λ i. get_or keys i 0) }
-    {
-        Keys { keys, count }
-    }
-
     // Whether one of the keys from place `from` on is k.
     fn holds(self, from: usize, k: u8) -> bool
         requires { from ≤ self.count }

@@ -51,7 +51,7 @@ pub fn decide(table: Table, event: Event) -> Result<Decided, Reason>
             partition,
             count,
             keys,
-        } => pages::begin(table, session, partition, Keys::new(keys, count)),
+        } => pages::begin(table, session, partition, Keys { keys, count }),
         Event::Read { session, key } => pages::read(table, session, key),
         Event::End { session } => pages::end(table, session),
         Event::Beat { site, partition } => writes::beat(table, NodeAt { site, partition }),

@@ -2,15 +2,11 @@
 use native.Mathlib.Omega.{arith}
 use mathlib.Core.Bool.{not}
 use lib.Dec.{ltb, leb, eqb}
-use lib.ListN.{length, get_or}
-use Prim.Native.Nat.{◌≤◌}
-use Rattle.codec.specs.Tabulate.{tabulate}
 use Rattle.table.specs.Decode.{setting_in}
 use mir.Facts.{T_not, and_yes, ltb_yes, leb_yes}
 use Rattle.codec.proofs.Tabulate.{tab_length}
 use Rattle.codec.proofs.Tests.{yes_eqb}
 use Rattle.protocol.specs.Needs.{ranges}
-use Rattle.protocol.proofs.Judge.{Met}
 use Rattle.lawful.proofs.Facts.{formed}
 use Rattle.steps.proofs.Fields.{ranged}
 use Rattle.steps.proofs.decide.Goals as goal
@@ -54,13 +50,11 @@ put-requires c =
     let k = ranged c.args.table.bytes.now c.args.event _ c.in-Put.is c.requires in
     ltb_yes k.0
 
-pub new-requires : goal.new-requires
+pub invariant_of-begin : goal.invariant_of-begin
 unfolding ranges
-new-requires c =
+invariant_of-begin c =
     let k = ranged c.args.table.bytes.now c.args.event _ c.in-Begin.is c.requires in
-    let ks = tabulate c.in-Begin.count (λ i. get_or c.in-Begin.keys i 0) in
-    let few : length ks ≤ 8 = leb_yes (and_yes (ltb 0 (length ks)) (leb (length ks) 8) k.1.1.0).1 in
-    omega (arith, few, tab_length c.in-Begin.count (λ i. get_or c.in-Begin.keys i 0))
+    record { few = leb_yes (and_yes (ltb 0 c.in-Begin.count) (leb c.in-Begin.count 8) (simp tab_length at k.1.1.0)).1 }
 
 pub begin-requires : goal.begin-requires
 unfolding ranges

@@ -6,4 +6,4 @@ use Rattle.outcome.proofs.keeping.closed.Goals as goal
 
 pub returns : goal.returns
 unfolding closed no_page tabulate unread
-returns c = rw (c.zero-zero.ensures, c.unread.ensures, c.new.ensures)
+returns c = rw (c.zero-zero.ensures, c.unread.ensures)
