@@ -1,6 +1,7 @@
 -- The laws of each, and of tests and choices.
 pub mod Tests
 pub mod Below
+pub mod InRange
 pub mod Tabulate
 pub mod Le
 pub mod Level

@@ -1,8 +1,6 @@
 -- `search::newest` meets its contract: what stands at the place that was found, if any.
 use mathlib.Core.Path.{sym, ap, ◌∙◌}
-use Prim.Native.Nat.{ℕ, ◌-◌}
-use native.Mathlib.Omega.{arith}
-use borrow.Author.Rules.{rules}
+use Prim.Native.Nat.{ℕ}
 use Rattle.protocol.specs.Record.{Rec}
 use Rattle.protocol.specs.Search.{newest_place, placed}
 use Rattle.protocol.proofs.Places.{newest_is_placed}
@@ -10,10 +8,6 @@ use Rattle.record.specs.RecordBytes.{record_at}
 use Rattle.parts.specs.Node.{slot_at, held_in, store_in}
 use Rattle.search.specs.Found.{fits}
 use Rattle.search.proofs.newest.Goals as goal
-
-pub found_at-requires : goal.found_at-requires
-found_at-requires c =
-    (search rules, omega arith, λ h. c.requires.2 (c.newest_place.result - 1) (omega arith))
 
 pub returns : goal.returns
 unfolding store_in

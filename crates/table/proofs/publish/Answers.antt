@@ -1,10 +1,9 @@
 -- `table::publish` meets its contract, by what comes back of the site's part, and the kept places that follow it.
-use mathlib.Core.Path.{◌≡◌, sym, ap, subst, ◌∙◌}
-use Prim.Native.Nat.{◌+◌, ◌-◌, ◌<◌}
+use mathlib.Core.Path.{sym, ap, subst, ◌∙◌}
+use Prim.Native.Nat.{◌-◌, ◌<◌}
 use lib.ListN.{length}
 use native.Mathlib.Omega.{arith}
 use borrow.Author.Rules.{rules}
-use borrow.Rule.Slice.PartMut.{put_mid}
 use Rattle.protocol.specs.Change.{Publish}
 use Rattle.record.specs.Meaning.{as_message}
 use Rattle.table.specs.Parts.{Long}
@@ -33,8 +32,7 @@ pub note_message-requires : goal.note_message-requires
 unfolding put_core
 note_message-requires c =
     let a = c.args in
-    let sent : put_mid c.site_at-off.result (c.site_at-off.result + 13056 - c.site_at-off.result) a.t.now c.publish.new.site ≡ put_core (Publish a.node.site a.node.partition (as_message a.x)) a.t.now =
-    rw (sym c.load.ensures) (site_back a.t.now a.node.site _ c.site_at-off.ensures.0 _ (published_on (c.load.result - 1) a.node.site a.node.partition (as_message a.x)) c.publish.ensures) in
+    let sent = rw c.load.ensures at (site_back a.t.now a.node.site _ c.site_at-off.ensures.0 _ (published_on (c.load.result - 1) a.node.site a.node.partition (as_message a.x)) c.publish.ensures) in
     let fit = c.requires in
     let x = as_message a.x in
     let long : Long a.t.now = omega (arith, fit.whole) in
@@ -47,7 +45,6 @@ pub returns : goal.returns
 unfolding put_core
 returns c =
     let a = c.args in
-    let sent : put_mid c.site_at-off.result (c.site_at-off.result + 13056 - c.site_at-off.result) a.t.now c.publish.new.site ≡ put_core (Publish a.node.site a.node.partition (as_message a.x)) a.t.now =
-    rw (sym c.load.ensures) (site_back a.t.now a.node.site _ c.site_at-off.ensures.0 _ (published_on (c.load.result - 1) a.node.site a.node.partition (as_message a.x)) c.publish.ensures) in
+    let sent = rw c.load.ensures at (site_back a.t.now a.node.site _ c.site_at-off.ensures.0 _ (published_on (c.load.result - 1) a.node.site a.node.partition (as_message a.x)) c.publish.ensures) in
     let x = as_message a.x in
     c.note_message.ensures ∙ ap (message_noted a.node.site a.node.partition x) sent ∙ publish-noted a.node.site a.node.partition x a.t.now c.requires

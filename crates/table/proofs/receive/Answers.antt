@@ -1,5 +1,5 @@
 -- `table::receive` meets its contract: the two sites' parts are apart, so the second change finds its channel as it was; the kept places follow.
-use mathlib.Core.Path.{◌≡◌, sym, ap, subst, ◌∙◌}
+use mathlib.Core.Path.{sym, ap, subst, ◌∙◌}
 use native.Mathlib.Omega.{arith}
 use lib.ListN.{length}
 use Rattle.protocol.specs.Change.{Receive}
@@ -11,14 +11,6 @@ use Rattle.table.proofs.Beside.{site-received}
 use Rattle.table.proofs.Decode.{length-put_core}
 use Rattle.table.proofs.Follows.{receive-noted, receive_notable}
 use Rattle.table.proofs.receive.Goals as goal
-
-pub place_of-d-requires : goal.place_of-d-requires
-place_of-d-requires c = let fit = c.requires in (fit.source, fit.site, fit.other)
-
-pub take_in-requires : goal.take_in-requires
-take_in-requires c =
-    let fit = c.requires in
-    (omega (arith, fit.whole), fit.source, fit.room)
 
 pub take_off-requires : goal.take_off-requires
 take_off-requires c =
@@ -32,7 +24,7 @@ pub note_message-requires : goal.note_message-requires
 unfolding put_core
 note_message-requires c =
     let a = c.args in
-    let taken : c.take_off.new.t ≡ put_core (Receive a.i a.node.site a.node.partition (as_message a.x)) a.t.now = c.take_off.ensures ∙ rw (c.take_in.ensures, c.place_of-d.ensures.0) in
+    let taken = rw (c.take_in.ensures, c.place_of-d.ensures.0) at c.take_off.ensures in
     let fit = c.requires in
     let x = as_message a.x in
     let long : Long a.t.now = omega (arith, fit.whole) in
@@ -45,6 +37,6 @@ pub returns : goal.returns
 unfolding put_core
 returns c =
     let a = c.args in
-    let taken : c.take_off.new.t ≡ put_core (Receive a.i a.node.site a.node.partition (as_message a.x)) a.t.now = c.take_off.ensures ∙ rw (c.take_in.ensures, c.place_of-d.ensures.0) in
+    let taken = rw (c.take_in.ensures, c.place_of-d.ensures.0) at c.take_off.ensures in
     let x = as_message a.x in
     c.note_message.ensures ∙ ap (message_noted a.node.site a.node.partition x) taken ∙ receive-noted a.i a.node.site a.node.partition x a.t.now c.requires

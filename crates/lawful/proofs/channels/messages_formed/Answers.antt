@@ -1,6 +1,6 @@
 -- `lawful::channels::messages_formed` meets its contract: each message is tested.
 use borrow.Author.Rules.{rules}
-use Rattle.record.proofs.InRange.{all_in_range}
+use Rattle.codec.proofs.InRange.{all_in_range}
 use Rattle.lawful.proofs.channels.messages_formed.Goals as goal
 
 pub returns : goal.returns

@@ -1,6 +1,6 @@
 -- `lawful::sessions::flags_formed` meets its contract: each flag is tested.
 use borrow.Author.Rules.{rules}
-use Rattle.record.proofs.InRange.{all_in_range}
+use Rattle.codec.proofs.InRange.{all_in_range}
 use Rattle.lawful.specs.WellFormed.{flags_at}
 use Rattle.lawful.proofs.sessions.flags_formed.Goals as goal
 

@@ -1,6 +1,6 @@
 -- `lawful::sites::channels_formed` meets its contract: each channel is tested.
 use borrow.Author.Rules.{rules}
-use Rattle.record.proofs.InRange.{all_in_range}
+use Rattle.codec.proofs.InRange.{all_in_range}
 use Rattle.lawful.proofs.sites.channels_formed.Goals as goal
 
 pub returns : goal.returns

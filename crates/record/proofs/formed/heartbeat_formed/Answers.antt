@@ -23,13 +23,12 @@ leb_zero (suc n) = lt-leb (suc n) 0 (omega arith) ∙ sym (ne_eqb (suc n) 0 (ome
 
 -- behind a key of 0, at most the key is 0
 with_key : (key level : ℕ) (v : ℕ → ℕ) (s q : Bool) → joined (eqb key 0 ∷ s ∷ q ∷ leb level key ∷ all_below width (λ e. leb (v e) key) ∷ []) ≡ every (eqb key 0 ∷ s ∷ q ∷ eqb level 0 ∷ all_below width (λ e. eqb (v e) 0) ∷ [])
-with_key key level v s q = go (ℕ_discrete key 0)
-  where
-    go : Dec (key ≡ 0) → joined (eqb key 0 ∷ s ∷ q ∷ leb level key ∷ all_below width (λ e. leb (v e) key) ∷ []) ≡ every (eqb key 0 ∷ s ∷ q ∷ eqb level 0 ∷ all_below width (λ e. eqb (v e) 0) ∷ [])
-    go (yes z) =
-        rw (z, leb_zero level, all_below_ext width (λ e. leb (v e) 0) (λ e. eqb (v e) 0) (λ e b. leb_zero (v e)))
-        (sym (every-joined (eqb 0 0 ∷ s ∷ q ∷ eqb level 0 ∷ all_below width (λ e. eqb (v e) 0) ∷ [])))
-    go (no d) = rw (ne_eqb key 0 d) (sym (every_fails _ 0 refl))
+with_key key level v s q = elim (ℕ_discrete key 0) [
+  | yes z ↦
+      rw (z, leb_zero level, all_below_ext width (λ e. leb (v e) 0) (λ e. eqb (v e) 0) (λ e b. leb_zero (v e)))
+      (sym (every-joined (eqb 0 0 ∷ s ∷ q ∷ eqb level 0 ∷ all_below width (λ e. eqb (v e) 0) ∷ [])))
+  | no d ↦ rw (ne_eqb key 0 d) (sym (every_fails _ 0 refl))
+]
 
 pub returns : goal.returns
 unfolding heartbeat_formed

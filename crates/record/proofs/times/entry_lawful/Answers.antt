@@ -13,11 +13,7 @@ use Rattle.record.specs.Ranges.{stamp_lawful}
 use Rattle.record.proofs.times.entry_lawful.Goals as goal
 
 below_one : (x : ℕ) → ltb x 1 ≡ eqb x 0
-below_one x = go (ℕ_discrete x 0)
-  where
-    go : Dec (x ≡ 0) → ltb x 1 ≡ eqb x 0
-    go (yes e) = rw e
-    go (no d) = le-ltb x 1 (omega arith) ∙ sym (ne_eqb x 0 d)
+below_one x = elim (ℕ_discrete x 0) [ yes e ↦ rw e | no d ↦ le-ltb x 1 (omega arith) ∙ sym (ne_eqb x 0 d) ]
 
 below_limit : (c : Setting) (there : Bool) (x : ℕ) → ltb x (cond there (top_of c) 1) ≡ cond there (stamp_lawful c x) (eqb x 0)
 unfolding stamp_lawful

@@ -6,7 +6,7 @@ use lib.Dec.{leb}
 use Rattle.codec.specs.Le.{load}
 use Rattle.codec.proofs.Below.{all_below_ext}
 use Rattle.vector.proofs.Entries.{load_vec-below}
-use Rattle.record.proofs.InRange.{all_in_range}
+use Rattle.codec.proofs.InRange.{all_in_range}
 use Rattle.record.proofs.times.none_above.Goals as goal
 
 pub returns : goal.returns

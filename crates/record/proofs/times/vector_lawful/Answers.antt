@@ -2,7 +2,7 @@
 use borrow.Author.Rules.{rules}
 use Rattle.vector.specs.Entries.{entry}
 use Rattle.record.specs.Ranges.{vec_lawful}
-use Rattle.record.proofs.InRange.{all_in_range}
+use Rattle.codec.proofs.InRange.{all_in_range}
 use Rattle.record.proofs.times.vector_lawful.Goals as goal
 
 pub returns : goal.returns

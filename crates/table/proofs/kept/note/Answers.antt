@@ -1,23 +1,12 @@
 -- `table::kept::note` meets its contract: the node and its kept place are read, and the one byte is set in what is lent.
 use mathlib.Core.Path.{◌≡◌, ap, ◌∙◌}
-use native.Mathlib.Omega.{arith}
 use Rattle.codec.specs.Le.{put}
 use Rattle.parts.specs.Node.{held_in}
 use Rattle.table.specs.Parts.{site_of, node_of}
 use Rattle.table.specs.Decode.{setting_in}
 use Rattle.table.specs.Noted.{place_noted, noted}
 use Rattle.table.proofs.Lent.{kept_lent, kept_back}
-use borrow.Author.Rules.{rules}
 use Rattle.table.proofs.kept.note.Goals as goal
-
-pub overflow_sub-last : goal.overflow_sub-last
-overflow_sub-last c =
-    let a = c.args in
-    omega (arith, c.held.ensures, ap held_in c.node-n.ensures.0, c.requires.2)
-
-pub later-newest-requires : goal.later-newest-requires
-later-newest-requires c =
-    (search rules, omega (arith, c.held.ensures, ap held_in c.node-n.ensures.0, c.requires.3), omega (arith, c.place-best.ensures, c.requires.4))
 
 pub returns : goal.returns
 unfolding noted place_noted

@@ -1,14 +1,8 @@
 -- `table::kept::note_message` meets its contract: an update is noted, a heartbeat is not.
-use mathlib.Core.Path.{sym, ap, subst, ◌∙◌}
+use mathlib.Core.Path.{sym, ap, ◌∙◌}
 use Rattle.record.proofs.Meaning.{message_told}
-use Rattle.table.specs.Noted.{message_noted, Notable}
+use Rattle.table.specs.Noted.{message_noted}
 use Rattle.table.proofs.kept.note_message.Goals as goal
-
-pub note-requires : goal.note-requires
-note-requires c =
-    let a = c.args in
-    let asked = subst (λ y. Notable a.node.site a.node.partition y a.t.now) (message_told a.x _ c.in-Update.is) c.requires.1 in
-    (c.requires.0, asked.0, asked.1, asked.2, asked.3)
 
 pub returns-in-Update : goal.returns-in-Update
 unfolding message_noted
