@@ -13,7 +13,7 @@ use record::formed;
 
 // The first `wait` messages from the place `front` on, round the ring.
 fn messages_formed(b: &[u8], setting: Setting, i: u8, p: u8, front: u8, wait: u8) -> bool
-    requires { (length b.now ≡ 464) × (0 < setting.partitions) }
+    requires { length b.now ≡ 464 }
     ensures { result ≡ all_below wait (λ k. message_formed (setting_of setting) i p b.now (ring_at front k)) }
 {
     (0..wait).all(|k| {
@@ -24,7 +24,7 @@ fn messages_formed(b: &[u8], setting: Setting, i: u8, p: u8, front: u8, wait: u8
 
 // The channel from site i at partition p to the place d among the other sites.
 pub fn channel_formed(b: &[u8], setting: Setting, i: u8, p: u8, d: u8) -> bool
-    requires { (length b.now ≡ 464) × (0 < setting.partitions) × (d < 3) }
+    requires { (length b.now ≡ 464) × (d < 3) }
     ensures { result ≡ channel_formed (setting_of setting) i p d b.now }
 {
     let wait = parts::channels::waiting(b);

@@ -55,7 +55,7 @@ fn sessions_formed(t: &[u8], setting: Setting) -> bool
 }
 
 fn sites_formed(t: &[u8], setting: Setting) -> bool
-    requires { Whole t.now × (0 < setting.partitions) }
+    requires { Whole t.now }
     ensures { result ≡ (all_below 4 (λ m. site_formed (setting_of setting) m (site_of t.now m)) && all_below 4 (λ m. all_below 4 (λ p. kept_formed (setting_of setting) (node_of (site_of t.now m) p) (kept_of t.now m p)))) }
 {
     for m in 0..4 {

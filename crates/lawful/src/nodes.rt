@@ -21,7 +21,7 @@ pub fn most(exists: bool, n: u8) -> u8
 
 // The first `held` records, which are all, and the kept places s. One walk does both: `best` has for each key the place of the newest record so far.
 fn records_formed(n: &[u8], s: &[u8], setting: Setting, p: u8, held: u8) -> bool
-    requires { (length n.now ≡ 1856) × (length s.now ≡ 64) × (0 < setting.partitions) × (held ≤ 32) × (held ≡ held_in n.now) }
+    requires { (length n.now ≡ 1856) × (length s.now ≡ 64) × (held ≤ 32) × (held ≡ held_in n.now) }
     ensures { result ≡ (all_below held (λ k. record_formed (setting_of setting) p n.now (slot_at k)) && kept_formed (setting_of setting) n.now s.now) }
 {
     let mut best = [0u8; 64];
@@ -39,7 +39,7 @@ fn records_formed(n: &[u8], s: &[u8], setting: Setting, p: u8, held: u8) -> bool
 
 // The node n of site m and partition p, and its kept places s.
 pub fn node_formed(n: &[u8], s: &[u8], setting: Setting, m: u8, p: u8) -> bool
-    requires { (length n.now ≡ 1856) × (length s.now ≡ 64) × (0 < setting.partitions) }
+    requires { (length n.now ≡ 1856) × (length s.now ≡ 64) }
     ensures { result ≡ (node_formed (setting_of setting) m p n.now && kept_formed (setting_of setting) n.now s.now) }
 {
     let held = parts::nodes::held(n);

@@ -11,7 +11,7 @@ use protocol::limits::{NodeAt, Setting};
 use table::places;
 
 fn channels_formed(site: &[u8], setting: Setting, m: u8, p: u8) -> bool
-    requires { (length site.now ≡ 13056) × (0 < setting.partitions) × (p < 4) }
+    requires { (length site.now ≡ 13056) × (p < 4) }
     ensures { result ≡ all_below 3 (λ d. channel_formed (setting_of setting) m p d (channel_of site.now p d)) }
 {
     (0..3).all(|d| channels::channel_formed(
@@ -25,7 +25,7 @@ fn channels_formed(site: &[u8], setting: Setting, m: u8, p: u8) -> bool
 
 // Site m, and the kept places of its nodes. A loop: with `all`, whose closure joins two tests, the proof did not close.
 pub fn site_formed(t: &[u8], setting: Setting, m: u8) -> bool
-    requires { Whole t.now × (0 < setting.partitions) × (m < 4) }
+    requires { Whole t.now × (m < 4) }
     ensures { result ≡ (site_formed (setting_of setting) m (site_of t.now m) && all_below 4 (λ p. kept_formed (setting_of setting) (node_of (site_of t.now m) p) (kept_of t.now m p))) }
 {
     let site = places::site(t, m);

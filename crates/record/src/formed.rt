@@ -42,7 +42,7 @@ pub fn record_in_range(b: &[u8], at: usize, setting: Setting) -> bool
 
 // The record at `at`, of partition p.
 pub fn record_lawful(b: &[u8], at: usize, setting: Setting, p: u8) -> bool
-    requires { (at + 48 ≤ length b.now) × (0 < setting.partitions) }
+    requires { at + 48 ≤ length b.now }
     ensures { result ≡ record_lawful (setting_of setting) p (record_at b.now at) }
 {
     if limits::partition_of(u8::load(b, at), setting.partitions) != p {
@@ -53,7 +53,7 @@ pub fn record_lawful(b: &[u8], at: usize, setting: Setting, p: u8) -> bool
 
 // A stored record has kind 1.
 pub fn record_formed(n: &[u8], at: usize, setting: Setting, p: u8) -> bool
-    requires { (at + 48 ≤ length n.now) × (0 < setting.partitions) }
+    requires { at + 48 ≤ length n.now }
     ensures { result ≡ record_formed (setting_of setting) p n.now at }
 {
     if u8::load(n, at + 3) != 1 {
@@ -64,7 +64,7 @@ pub fn record_formed(n: &[u8], at: usize, setting: Setting, p: u8) -> bool
 
 // What stands at `at`, as an update of site i.
 fn update_formed(b: &[u8], at: usize, setting: Setting, i: u8, p: u8) -> bool
-    requires { (at + 48 ≤ length b.now) × (0 < setting.partitions) }
+    requires { at + 48 ≤ length b.now }
     ensures { result ≡ message_lawful (setting_of setting) i p (Update (record_at b.now at)) }
 {
     if u8::load(b, at + 1) != i {
@@ -91,7 +91,7 @@ fn heartbeat_formed(b: &[u8], at: usize, i: u8) -> bool
 
 // A message of the channel from site i at partition p: kind 1 is an update, 2 a heartbeat.
 pub fn message_formed(b: &[u8], at: usize, setting: Setting, i: u8, p: u8) -> bool
-    requires { (at + 48 ≤ length b.now) × (0 < setting.partitions) }
+    requires { at + 48 ≤ length b.now }
     ensures { result ≡ message_formed (setting_of setting) i p b.now at }
 {
     let kind = u8::load(b, at + 3);
