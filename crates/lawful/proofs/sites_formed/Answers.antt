@@ -8,7 +8,6 @@ use Rattle.codec.specs.Below.{all_below}
 use Rattle.codec.proofs.Tests.{fails, passes}
 use Rattle.codec.proofs.Below.{all_below-and, all_below_none, all_below_more, all_below_fails}
 use Rattle.protocol.specs.Record.{Setting}
-use Rattle.protocol.specs.Meaning.{setting_of}
 use Rattle.table.specs.Parts.{site_of, node_of, kept_of}
 use Rattle.lawful.specs.WellFormed.{site_formed, kept_formed}
 use Rattle.lawful.proofs.sites_formed.Goals as goal
@@ -23,9 +22,8 @@ loop-m-init c = all_below_none _
 
 pub returns-then-not-site_formed : goal.returns-then-not-site_formed
 returns-then-not-site_formed c =
-    let a = c.args in
     let no = fails c.site_formed.ensures c.if-not-site_formed.true in
-    sym (all_below_fails 4 _ c.loop-m.m (omega arith) no) ∙ both a.t.now (setting_of a.setting)
+    sym (all_below_fails 4 _ c.loop-m.m (omega arith) no) ∙ both _ _
 
 pub loop-m-preserved : goal.loop-m-preserved
 loop-m-preserved c =
@@ -34,6 +32,5 @@ loop-m-preserved c =
 
 pub returns : goal.returns
 returns c =
-    let a = c.args in
     let e : c.loop-m.m ≡ 4 = omega arith in
-    sym (rw e at c.loop-m.invariant) ∙ both a.t.now (setting_of a.setting)
+    sym (rw e at c.loop-m.invariant) ∙ both _ _

@@ -1,7 +1,7 @@
 -- `lawful::channels::channel_formed` meets its contract, with no message, too many or some.
 use mathlib.Core.Path.{◌≡◌, sym, ◌∙◌}
 use mathlib.Core.Bool.{true}
-use Prim.Native.Nat.{ℕ, ◌+◌, ◌-◌, ◌<◌}
+use Prim.Native.Nat.{ℕ, ◌+◌, ◌-◌}
 use native.Mathlib.Decide.{dec_lt}
 use native.Mathlib.Omega.{arith}
 use borrow.Author.Tests.{lt-ltb, le-ltb, lt-leb, le-leb}
@@ -13,11 +13,10 @@ use Rattle.lawful.proofs.channels.channel_formed.Goals as goal
 
 -- the place d among the other sites is there
 place_there : (d sites : ℕ) → ltb (d + 1) sites ≡ ltb d (sites - 1)
-place_there d sites = go (dec_lt (d + 1) sites)
-  where
-    go : Dec (d + 1 < sites) → ltb (d + 1) sites ≡ ltb d (sites - 1)
-    go (yes l) = lt-ltb (d + 1) sites l ∙ sym (lt-ltb d (sites - 1) (omega arith))
-    go (no l) = le-ltb (d + 1) sites (omega arith) ∙ sym (le-ltb d (sites - 1) (omega arith))
+place_there d sites = elim (dec_lt (d + 1) sites) [
+  | yes l ↦ lt-ltb (d + 1) sites l ∙ sym (lt-ltb d (sites - 1) (omega arith))
+  | no l ↦ le-ltb (d + 1) sites (omega arith) ∙ sym (le-ltb d (sites - 1) (omega arith))
+]
 
 none_fits : (n : ℕ) → leb 0 n ≡ true
 none_fits n = le-leb 0 n (omega arith)

@@ -38,12 +38,12 @@ bounds-best-key c = key_small _ _ _ _ _ c.record_formed.ensures c.if-not-record_
 pub overflow_cast-best : goal.overflow_cast-best
 overflow_cast-best c =
     let key = key_small _ _ _ _ _ c.record_formed.ensures c.if-not-record_formed.false c.load-key.ensures in
-    omega (arith, bests_at_most c.args.n.now c.loop-k.best c.loop-k.k c.loop-k.invariant.2 c.load-key.result key)
+    omega (arith, bests_at_most _ _ _ c.loop-k.invariant.2 _ key)
 
 pub later-requires : goal.later-requires
 later-requires c =
     let key = key_small _ _ _ _ _ c.record_formed.ensures c.if-not-record_formed.false c.load-key.ensures in
-    (search rules, omega arith, omega (arith, bests_at_most c.args.n.now c.loop-k.best c.loop-k.k c.loop-k.invariant.2 c.load-key.result key))
+    (search rules, omega arith, omega (arith, bests_at_most _ _ _ c.loop-k.invariant.2 _ key))
 
 pub bounds-best-key-in-loop-k : goal.bounds-best-key-in-loop-k
 bounds-best-key-in-loop-k c = key_small _ _ _ _ _ c.record_formed.ensures c.if-not-record_formed.false c.load-key.ensures
@@ -54,7 +54,7 @@ loop-k-preserved c =
     let key = key_small _ _ _ _ _ c.record_formed.ensures c.if-not-record_formed.false c.load-key.ensures in (
       all_below_more c.loop-k.k _ c.loop-k.invariant.0 (passes c.record_formed.ensures c.if-not-record_formed.false),
       simp length-set c.loop-k.invariant.1,
-      bests_more c.args.n.now c.loop-k.best c.loop-k.k c.load-key.result c.later.result c.loop-k.invariant.1 key (sym c.load-key.ensures) c.loop-k.invariant.2 c.later.ensures.0,
+      bests_more _ _ _ _ _ c.loop-k.invariant.1 key (sym c.load-key.ensures) c.loop-k.invariant.2 c.later.ensures.0,
     )
 
 pub returns : goal.returns

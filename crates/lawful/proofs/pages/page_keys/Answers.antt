@@ -3,7 +3,7 @@ use mathlib.Core.Path.{◌≡◌, sym, ◌∙◌}
 use mathlib.Core.Bool.{true, false}
 use Prim.Native.Nat.{ℕ}
 use native.Mathlib.Omega.{arith}
-use borrow.Author.Tests.{lt-ltb, le-ltb, ne_eqb}
+use borrow.Author.Tests.{lt-ltb, le-ltb}
 use lib.Dec.{ltb}
 use Rattle.codec.proofs.Tests.{every_fails, every-joined}
 use Rattle.lawful.proofs.pages.page_keys.Goals as goal
@@ -13,9 +13,6 @@ no_key n e = le-ltb 0 n (omega arith)
 
 some_key : (n : ℕ) → (n ≡ 0 → ⊥) → ltb 0 n ≡ true
 some_key n e = lt-ltb 0 n (omega arith)
-
-pub returns-then-load-ne1 : goal.returns-then-load-ne1
-returns-then-load-ne1 c = rw (ne_eqb _ 1 (λ e. c.if-load-ne1.true (c.load.ensures ∙ e)))
 
 pub returns-then-count-eq0 : goal.returns-then-count-eq0
 returns-then-count-eq0 c =

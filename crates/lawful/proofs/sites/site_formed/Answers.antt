@@ -1,6 +1,6 @@
 -- `lawful::sites::site_formed` meets its contract: the first p partitions passed.
 use mathlib.Core.Path.{◌≡◌, sym, ◌∙◌}
-use mathlib.Core.Bool.{Bool, ◌&&◌, and-false}
+use mathlib.Core.Bool.{◌&&◌, and-false}
 use mathlib.Core.List.{List}
 use Prim.Native.Nat.{ℕ}
 use native.Mathlib.Omega.{arith}
@@ -23,37 +23,28 @@ both t c m site e =
     rw (← e)
     (tested_together 4 (λ k. node_formed c m k (node_of site k)) (λ k. kept_formed c (node_of site k) (kept_of t m k)) (λ k. all_below 3 (λ d. channel_formed c m k d (channel_of site k d))))
 
--- what is tested of node (m, p) of the site: the test's answer, by the bytes that were lent
-node_test : (t site n k : List ℕ) (c : Setting) (m p : ℕ) {r : Bool} → n ≡ node_of site p → k ≡ kept_of t m p →
-    r ≡ (node_formed c m p n && kept_formed c n k) →
-    r ≡ (node_formed c m p (node_of site p) && kept_formed c (node_of site p) (kept_of t m p))
-node_test t site n k c m p at_n at_k e = e ∙ rw (at_n, at_k)
-
 pub loop-p-init : goal.loop-p-init
 loop-p-init c = all_below_none _
 
 pub returns-then-not-node_formed : goal.returns-then-not-node_formed
 returns-then-not-node_formed c =
     let a = c.args in
-    let no = fails (node_test c.args.t.now c.site-site.result.now _ _ (setting_of c.args.setting) c.args.m c.loop-p.p c.node_of.ensures.0 c.kept.ensures.0 c.node_formed.ensures) c.if-not-node_formed.true in
-    let site = c.site-site.result.now in
-    sym (all_below_fails 4 (tested a.t.now (setting_of a.setting) a.m site) c.loop-p.p (omega arith) (rw no)) ∙ both a.t.now (setting_of a.setting) a.m site c.site-site.ensures.0
+    let no = fails (rw (c.node_of.ensures.0, c.kept.ensures.0) at c.node_formed.ensures) c.if-not-node_formed.true in
+    sym (all_below_fails 4 (tested a.t.now (setting_of a.setting) a.m c.site-site.result.now) c.loop-p.p (omega arith) (rw no)) ∙ both _ _ _ _ c.site-site.ensures.0
 
 pub returns-then-not-channels_formed : goal.returns-then-not-channels_formed
 returns-then-not-channels_formed c =
     let a = c.args in
     let no = fails c.channels_formed.ensures c.if-not-channels_formed.true in
-    let site = c.site-site.result.now in
-    sym (all_below_fails 4 (tested a.t.now (setting_of a.setting) a.m site) c.loop-p.p (omega arith) (rw (no, and-false))) ∙ both a.t.now (setting_of a.setting) a.m site c.site-site.ensures.0
+    sym (all_below_fails 4 (tested a.t.now (setting_of a.setting) a.m c.site-site.result.now) c.loop-p.p (omega arith) (rw (no, and-false))) ∙ both _ _ _ _ c.site-site.ensures.0
 
 pub loop-p-preserved : goal.loop-p-preserved
 loop-p-preserved c =
-    let yes_node = passes (node_test c.args.t.now c.site-site.result.now _ _ (setting_of c.args.setting) c.args.m c.loop-p.p c.node_of.ensures.0 c.kept.ensures.0 c.node_formed.ensures) c.if-not-node_formed.false in
+    let yes_node = passes (rw (c.node_of.ensures.0, c.kept.ensures.0) at c.node_formed.ensures) c.if-not-node_formed.false in
     let yes_channels = passes c.channels_formed.ensures c.if-not-channels_formed.false in
     all_below_more c.loop-p.p _ c.loop-p.invariant (rw (yes_node, yes_channels))
 
 pub returns : goal.returns
 returns c =
-    let a = c.args in
     let e : c.loop-p.p ≡ 4 = omega arith in
-    sym (rw e at c.loop-p.invariant) ∙ both a.t.now (setting_of a.setting) a.m c.site-site.result.now c.site-site.ensures.0
+    sym (rw e at c.loop-p.invariant) ∙ both _ _ _ _ c.site-site.ensures.0
