@@ -19,11 +19,6 @@ returns-then-not-sessions_formed c =
     let no = fails c.sessions_formed.ensures c.if-not-sessions_formed.true in
     rw (← c.setting-setting.ensures) (sym (every_fails _ 1 no))
 
-pub sites_formed-requires : goal.sites_formed-requires
-sites_formed-requires c =
-    let yes = passes c.setting_lawful.ensures c.if-not-setting_lawful.false in
-    (search rules, (setting_facts _ (subst T (sym yes) tt)).2)
-
 pub returns : goal.returns
 unfolding well_formed
 returns c =

@@ -5,10 +5,6 @@ use mathlib.Core.Path.{refl, ap}
 use Rattle.decision.proofs.Formed.{parts_some, parts_at_most}
 use Rattle.decision.proofs.lookup.partition.Goals as goal
 
-pub partition_of-requires : goal.partition_of-requires
-partition_of-requires c =
-    omega (arith, ap (λ d. d.partitions) c.setting-setting.ensures, parts_some c.args.table.bytes.now c.args.table.formed)
-
 pub returns : goal.returns
 returns c =
     let some = parts_some c.args.table.bytes.now c.args.table.formed in

@@ -62,5 +62,5 @@ returns c =
     let a = c.args in
     let d = setting_of a.setting in
     let e : c.loop-k.k ≡ a.held = omega arith in
-    let best = bests_all a.n.now c.loop-k.best c.loop-k.invariant.1 (rw (← c.requires.4, ← e) c.loop-k.invariant.2) d in
+    let best = bests_all a.n.now c.loop-k.best c.loop-k.invariant.1 (rw (← c.requires.3, ← e) c.loop-k.invariant.2) d in
     rw (rw e at c.loop-k.invariant.0) (c.same_places.ensures ∙ ap (λ (b : List ℕ). all_below 64 (λ k. eqb (load 1 a.s.now k) (load 1 b k))) best ∙ kept-bytes d a.n.now a.s.now)
