@@ -17,25 +17,23 @@ ghost use Rattle.decision.specs.Opened.{Opened};
 use lawful::Table;
 use parts::{Session, nodes, sessions};
 use protocol::Reason;
-use protocol::limits::{self, NodeAt};
+use protocol::limits::{self, NodeAt, SessionAt};
 use record::Record;
 use search::Wanted;
 use table::places;
 use vector::Vector;
 
 // A session; the site of an open one exists.
-pub fn session(table: Table, s: u8) -> Session
-    requires { s < 16 }
-    ensures { (as_session result ≡ session_in (session_of table.entry.bytes.now s)) × (result.open ≡ true → result.site < 4) × (result.open ≡ true → result.site < load 1 table.entry.bytes.now 0) }
+pub fn session(table: Table, s: SessionAt) -> Session
+    ensures { (as_session result ≡ session_in (session_of table.entry.bytes.now s.number)) × (result.open ≡ true → result.site < 4) × (result.open ≡ true → result.site < load 1 table.entry.bytes.now 0) }
 {
     sessions::load(places::session(table.bytes, s))
 }
 
 // A session that has to be open.
-pub fn opened(table: Table, s: u8) -> Result<Session, Reason>
-    requires { s < 16 }
-    ensures ok { IfOk result (Opened table.entry.bytes.now s) }
-    ensures err { IfErr result (λ w. (w ≡ Reason.SessionNotOpen) × ((session_in (session_of table.entry.bytes.now s)).is_open ≡ false)) }
+pub fn opened(table: Table, s: SessionAt) -> Result<Session, Reason>
+    ensures ok { IfOk result (Opened table.entry.bytes.now s.number) }
+    ensures err { IfErr result (λ w. (w ≡ Reason.SessionNotOpen) × ((session_in (session_of table.entry.bytes.now s.number)).is_open ≡ false)) }
 {
     let x = session(table, s);
     if x.open {

@@ -10,13 +10,13 @@ use crate::lookup;
 use lawful::Table;
 use outcome::{Decided, answers, keeping, raising};
 use parts::Keys;
-use protocol::limits::NodeAt;
+use protocol::limits::{NodeAt, SessionAt};
 use protocol::{Answer, Reason};
 
 // BEGIN of a page of these keys, with the node of partition p as its coordinator.
-pub fn begin(table: Table, s: u8, p: u8, keys: Keys) -> Result<Decided, Reason>
-    requires { (s < 16) × (p < 4) }
-    ensures { decided_of result ≡ answered (decode table.entry.bytes.now) (BEGIN s p (keys_on keys)) }
+pub fn begin(table: Table, s: SessionAt, p: u8, keys: Keys) -> Result<Decided, Reason>
+    requires { p < 4 }
+    ensures { decided_of result ≡ answered (decode table.entry.bytes.now) (BEGIN s.number p (keys_on keys)) }
 {
     let x = lookup::opened(table, s)?;
     if x.paged {
@@ -35,9 +35,8 @@ pub fn begin(table: Table, s: u8, p: u8, keys: Keys) -> Result<Decided, Reason>
 
 // R47, READ of key k: every entry of the node's vector is at least the page's, and then the newest candidate is shown. Where one is not it waits, for the lowest
 // such site (R51): no site is spared.
-pub fn read(table: Table, s: u8, k: u8) -> Result<Decided, Reason>
-    requires { s < 16 }
-    ensures { decided_of result ≡ answered (decode table.entry.bytes.now) (READ s k) }
+pub fn read(table: Table, s: SessionAt, k: u8) -> Result<Decided, Reason>
+    ensures { decided_of result ≡ answered (decode table.entry.bytes.now) (READ s.number k) }
 {
     let x = lookup::opened(table, s)?;
     if !x.paged {
@@ -55,9 +54,8 @@ pub fn read(table: Table, s: u8, k: u8) -> Result<Decided, Reason>
 }
 
 // R48, END of the page: raises the session by what the page gathered, which has no stamp of its own.
-pub fn end(table: Table, s: u8) -> Result<Decided, Reason>
-    requires { s < 16 }
-    ensures { decided_of result ≡ answered (decode table.entry.bytes.now) (END s) }
+pub fn end(table: Table, s: SessionAt) -> Result<Decided, Reason>
+    ensures { decided_of result ≡ answered (decode table.entry.bytes.now) (END s.number) }
 {
     let mut x = lookup::opened(table, s)?;
     if !x.paged {

@@ -9,12 +9,12 @@ ghost use Rattle.decision.specs.Answered.{answered};
 use crate::lookup;
 use lawful::Table;
 use outcome::{Decided, answers, keeping, raising};
+use protocol::limits::SessionAt;
 use protocol::{Answer, Reason};
 
 // OPEN of session s at site m.
-pub fn open_session(table: Table, s: u8, m: u8) -> Result<Decided, Reason>
-    requires { s < 16 }
-    ensures { decided_of result ≡ answered (decode table.entry.bytes.now) (OPEN s m) }
+pub fn open_session(table: Table, s: SessionAt, m: u8) -> Result<Decided, Reason>
+    ensures { decided_of result ≡ answered (decode table.entry.bytes.now) (OPEN s.number m) }
 {
     if lookup::session(table, s).open {
         return Err(Reason::SessionOpen);
@@ -22,9 +22,8 @@ pub fn open_session(table: Table, s: u8, m: u8) -> Result<Decided, Reason>
     Ok(answers::kept(Answer::Done, s, keeping::opened(m)))
 }
 
-pub fn close_session(table: Table, s: u8) -> Result<Decided, Reason>
-    requires { s < 16 }
-    ensures { decided_of result ≡ answered (decode table.entry.bytes.now) (CLOSE s) }
+pub fn close_session(table: Table, s: SessionAt) -> Result<Decided, Reason>
+    ensures { decided_of result ≡ answered (decode table.entry.bytes.now) (CLOSE s.number) }
 {
     lookup::opened(table, s)?;
     Ok(answers::kept(Answer::Done, s, keeping::closed()))
@@ -32,9 +31,9 @@ pub fn close_session(table: Table, s: u8) -> Result<Decided, Reason>
 
 // R44, GET of key k: the node's entry for every other site is at least the session's, and then the newest record is shown. Where one is not it waits,
 // for the lowest such site (R51).
-pub fn get(table: Table, s: u8, k: u8) -> Result<Decided, Reason>
-    requires { (s < 16) × (k < 64) }
-    ensures { decided_of result ≡ answered (decode table.entry.bytes.now) (GET s k) }
+pub fn get(table: Table, s: SessionAt, k: u8) -> Result<Decided, Reason>
+    requires { k < 64 }
+    ensures { decided_of result ≡ answered (decode table.entry.bytes.now) (GET s.number k) }
 {
     let x = lookup::opened(table, s)?;
     if x.paged {

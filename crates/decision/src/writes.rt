@@ -19,7 +19,7 @@ use lawful::Table;
 use outcome::{Decided, Effect, answers};
 use parts::{channels, nodes};
 use protocol::Reason;
-use protocol::limits::NodeAt;
+use protocol::limits::{NodeAt, SessionAt};
 use record::bytes;
 use table::places;
 use vector::Vector;
@@ -86,9 +86,8 @@ fn to_pass(table: Table, node: NodeAt, v: Vector) -> u64
     vector::later(seen, latest)
 }
 
-pub fn put(table: Table, s: u8, key: u8, quality: u8, level: i32) -> Result<Decided, Reason>
-    requires { s < 16 }
-    ensures { decided_of result ≡ answered (decode table.entry.bytes.now) (PUT s key quality level) }
+pub fn put(table: Table, s: SessionAt, key: u8, quality: u8, level: i32) -> Result<Decided, Reason>
+    ensures { decided_of result ≡ answered (decode table.entry.bytes.now) (PUT s.number key quality level) }
 {
     let x = lookup::opened(table, s)?;
     if x.paged {

@@ -10,7 +10,7 @@ ghost use Rattle.table.specs.Parts.{Long, Whole, session_of, site_of, node_of, k
 ghost use Rattle.lawful.specs.LawfulValues.{setting_lawful};
 ghost use Rattle.lawful.specs.WellFormed.{session_formed, site_formed, kept_formed, well_formed};
 
-use protocol::limits::Setting;
+use protocol::limits::{SessionAt, Setting};
 use table::places;
 
 mod channels;
@@ -47,7 +47,7 @@ fn sessions_formed(t: &[u8], setting: Setting) -> bool
     ensures { result ≡ all_below 16 (λ s. session_formed (setting_of setting) (session_of t.now s)) }
 {
     for s in 0..16 {
-        if !sessions::session_formed(places::session(t, s), setting) {
+        if !sessions::session_formed(places::session(t, SessionAt { number: s }), setting) {
             return false;
         }
     }

@@ -15,10 +15,10 @@ use Rattle.outcome.specs.declared.Decided.{Decided}
 
 abbrev pub changes_of : Effect → List Change
 changes_of Effect.Nothing = []
-changes_of (Effect.Keep s x) = SetSession s (as_session x) ∷ []
+changes_of (Effect.Keep s x) = SetSession s.number (as_session x) ∷ []
 changes_of (Effect.Clock n t) = SetClock n.site n.partition t ∷ []
 changes_of (Effect.Beat n t) = Publish n.site n.partition (Heartbeat t) ∷ []
-changes_of (Effect.Put s x n letter) = Publish n.site n.partition (as_message letter) ∷ SetSession s (as_session x) ∷ []
+changes_of (Effect.Put s x n letter) = Publish n.site n.partition (as_message letter) ∷ SetSession s.number (as_session x) ∷ []
 changes_of (Effect.Deliver i n letter) = Receive i n.site n.partition (as_message letter) ∷ []
 
 abbrev pub outcome_of : Decided → Outcome

@@ -18,7 +18,7 @@ ghost use Rattle.outcome.specs.Decided.{outcome_of};
 
 use crate::{Decided, Effect, keeping};
 use parts::Session;
-use protocol::limits::NodeAt;
+use protocol::limits::{NodeAt, SessionAt};
 use protocol::{Answer, Reading, Reason};
 use record::{Letter, Message, Numbers, Record};
 use vector::Vector;
@@ -71,8 +71,8 @@ pub fn hears(needed: Vector, heard: Vector, spared: Option<u8>) -> Result<(), Re
 }
 
 // The answer, and session s is now x.
-pub fn kept(answer: Answer, s: u8, x: Session) -> Decided
-    ensures { outcome_of result ≡ (answer and SetSession s (as_session x) ∷ []) }
+pub fn kept(answer: Answer, s: SessionAt, x: Session) -> Decided
+    ensures { outcome_of result ≡ (answer and SetSession s.number (as_session x) ∷ []) }
 {
     Decided {
         answer,
@@ -95,7 +95,7 @@ pub fn done(effect: Effect) -> Decided
 
 // R45: the record carries the session's vector as it was before; then the session's own entry becomes the stamp. The node is of the session's site.
 pub fn stored(
-    s: u8,
+    s: SessionAt,
     x: Session,
     node: NodeAt,
     key: u8,
@@ -104,7 +104,7 @@ pub fn stored(
     stamp: u64,
 ) -> Decided
     requires { x.site ≡ node.site }
-    ensures { outcome_of result ≡ (Stamped x.site stamp and Publish x.site node.partition (Update (written (as_session x) key quality level stamp)) ∷ SetSession s (with_vec (as_session x) (with_entry (as_session x).vec x.site stamp)) ∷ []) }
+    ensures { outcome_of result ≡ (Stamped x.site stamp and Publish x.site node.partition (Update (written (as_session x) key quality level stamp)) ∷ SetSession s.number (with_vec (as_session x) (with_entry (as_session x).vec x.site stamp)) ∷ []) }
 {
     let source = node.site;
     let vec = x.vec.with_entry(source as usize, stamp);

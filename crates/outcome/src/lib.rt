@@ -5,7 +5,7 @@
 
 use parts::Session;
 use protocol::Answer;
-use protocol::limits::NodeAt;
+use protocol::limits::{NodeAt, SessionAt};
 use record::Letter;
 
 pub mod answers;
@@ -17,7 +17,7 @@ pub mod raising;
 pub enum Effect {
     Nothing,
     Keep {
-        session: u8,
+        session: SessionAt,
         kept: Session,
     },
     Clock {
@@ -29,7 +29,7 @@ pub enum Effect {
         stamp: u64,
     },
     Put {
-        session: u8,
+        session: SessionAt,
         kept: Session,
         node: NodeAt,
         letter: Letter,

@@ -16,7 +16,7 @@ pub fn carry_out(t: &mut [u8], effect: Effect)
     match effect {
         Effect::Nothing => {}
         Effect::Keep { session, kept } => {
-            table::set_session(t, session as usize, kept);
+            table::set_session(t, session, kept);
         }
         Effect::Clock { node, time } => {
             table::set_clock(t, node, time);
@@ -36,7 +36,7 @@ pub fn carry_out(t: &mut [u8], effect: Effect)
             letter,
         } => {
             table::publish(t, node, letter);
-            table::set_session(t, session as usize, kept);
+            table::set_session(t, session, kept);
         }
         Effect::Deliver { from, node, letter } => {
             table::receive(t, from as usize, node, letter);

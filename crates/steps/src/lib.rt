@@ -19,7 +19,7 @@ use event::Event;
 use lawful::Table;
 use outcome::Decided;
 use parts::Keys;
-use protocol::limits::NodeAt;
+use protocol::limits::{NodeAt, SessionAt};
 use protocol::{Answer, Reason};
 
 pub mod answers;
@@ -32,28 +32,37 @@ pub fn decide(table: Table, event: Event) -> Result<Decided, Reason>
     ensures { decided_of result ≡ answered (decode table.entry.bytes.now) (as_event event) }
 {
     match event {
-        Event::Open { session, site } => sessions::open_session(table, session, site),
-        Event::Close { session } => sessions::close_session(table, session),
+        Event::Open { session, site } => sessions::open_session(
+            table,
+            SessionAt { number: session },
+            site,
+        ),
+        Event::Close { session } => sessions::close_session(table, SessionAt { number: session }),
         Event::Clock {
             site,
             partition,
             time,
         } => writes::clock(table, NodeAt { site, partition }, time),
-        Event::Get { session, key } => sessions::get(table, session, key),
+        Event::Get { session, key } => sessions::get(table, SessionAt { number: session }, key),
         Event::Put {
             session,
             key,
             quality,
             level,
-        } => writes::put(table, session, key, quality, level),
+        } => writes::put(table, SessionAt { number: session }, key, quality, level),
         Event::Begin {
             session,
             partition,
             count,
             keys,
-        } => pages::begin(table, session, partition, Keys { keys, count }),
-        Event::Read { session, key } => pages::read(table, session, key),
-        Event::End { session } => pages::end(table, session),
+        } => pages::begin(
+            table,
+            SessionAt { number: session },
+            partition,
+            Keys { keys, count },
+        ),
+        Event::Read { session, key } => pages::read(table, SessionAt { number: session }, key),
+        Event::End { session } => pages::end(table, SessionAt { number: session }),
         Event::Beat { site, partition } => writes::beat(table, NodeAt { site, partition }),
         Event::Deliver {
             from,

@@ -19,7 +19,7 @@ ghost use Rattle.table.specs.Fits.{FitsPublish, FitsReceive};
 
 use codec::Number;
 use parts::{Session, sessions};
-use protocol::limits::{NodeAt, Setting};
+use protocol::limits::{NodeAt, SessionAt, Setting};
 use record::Letter;
 
 pub mod kept;
@@ -45,11 +45,11 @@ pub fn setting(t: &[u8]) -> Setting
     }
 }
 
-pub fn set_session(t: &mut [u8], s: usize, x: Session)
-    requires { Long t.old × (s < 16) }
-    ensures { t.new ≡ put_change (SetSession s (as_session x)) t.old }
+pub fn set_session(t: &mut [u8], session: SessionAt, x: Session)
+    requires { Long t.old }
+    ensures { t.new ≡ put_change (SetSession session.number (as_session x)) t.old }
 {
-    let off = places::session_at(s);
+    let off = places::session_at(session.number as usize);
     sessions::store(&mut t[off..off + places::SESSION], x);
 }
 

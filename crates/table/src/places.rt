@@ -3,7 +3,7 @@
 ghost use Rattle.std.specs.Prelude.{◌≡◌, ◌+◌, ◌≤◌, ◌<◌, length};
 ghost use Rattle.table.specs.Parts.{Whole, Long, session_at, site_at, node_at, channel_at, kept_at, session_of, site_of, node_of, channel_of, kept_of};
 
-use protocol::limits::NodeAt;
+use protocol::limits::{NodeAt, SessionAt};
 
 pub const SESSION: usize = 128;
 
@@ -54,11 +54,11 @@ pub fn kept_at(node: NodeAt) -> usize
     56320 + KEPT * (4 * (node.site as usize) + node.partition as usize)
 }
 
-pub fn session(t: &[u8], s: u8) -> &[u8]
-    requires { Long t.now × (s < 16) }
-    ensures { (result.now ≡ session_of t.now s) × (length result.now ≡ 128) }
+pub fn session(t: &[u8], session: SessionAt) -> &[u8]
+    requires { Long t.now }
+    ensures { (result.now ≡ session_of t.now session.number) × (length result.now ≡ 128) }
 {
-    let off = session_at(s as usize);
+    let off = session_at(session.number as usize);
     &t[off..off + SESSION]
 }
 

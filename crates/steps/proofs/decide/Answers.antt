@@ -11,17 +11,17 @@ use Rattle.lawful.proofs.Facts.{formed}
 use Rattle.steps.proofs.Fields.{ranged}
 use Rattle.steps.proofs.decide.Goals as goal
 
-pub open_session-requires : goal.open_session-requires
+pub invariant_of-open_session : goal.invariant_of-open_session
 unfolding ranges
-open_session-requires c =
+invariant_of-open_session c =
     let k = ranged c.args.table.bytes.now c.args.event _ c.in-Open.is c.requires in
-    ltb_yes k.1.0
+    record { sixteen = ltb_yes k.1.0 }
 
-pub close_session-requires : goal.close_session-requires
+pub invariant_of-close_session : goal.invariant_of-close_session
 unfolding ranges
-close_session-requires c =
+invariant_of-close_session c =
     let k = ranged c.args.table.bytes.now c.args.event _ c.in-Close.is c.requires in
-    ltb_yes k.0
+    record { sixteen = ltb_yes k.0 }
 
 pub invariant_of-clock : goal.invariant_of-clock
 unfolding ranges
@@ -38,21 +38,33 @@ clock-requires c =
     let k = ranged c.args.table.bytes.now c.args.event _ c.in-Clock.is c.requires in
     (ltb_yes k.0, ltb_yes k.1.0)
 
+pub invariant_of-get : goal.invariant_of-get
+unfolding ranges
+invariant_of-get c =
+    let k = ranged c.args.table.bytes.now c.args.event _ c.in-Get.is c.requires in
+    record { sixteen = ltb_yes k.0 }
+
 pub get-requires : goal.get-requires
 unfolding ranges
 get-requires c =
     let k = ranged c.args.table.bytes.now c.args.event _ c.in-Get.is c.requires in
-    (ltb_yes k.0, ltb_yes k.1.0)
+    ltb_yes k.1.0
 
-pub put-requires : goal.put-requires
+pub invariant_of-put : goal.invariant_of-put
 unfolding ranges
-put-requires c =
+invariant_of-put c =
     let k = ranged c.args.table.bytes.now c.args.event _ c.in-Put.is c.requires in
-    ltb_yes k.0
+    record { sixteen = ltb_yes k.0 }
 
 pub invariant_of-begin : goal.invariant_of-begin
 unfolding ranges
 invariant_of-begin c =
+    let k = ranged c.args.table.bytes.now c.args.event _ c.in-Begin.is c.requires in
+    record { sixteen = ltb_yes k.1.0 }
+
+pub invariant_of-begin-in-Begin : goal.invariant_of-begin-in-Begin
+unfolding ranges
+invariant_of-begin-in-Begin c =
     let k = ranged c.args.table.bytes.now c.args.event _ c.in-Begin.is c.requires in
     record { few = leb_yes (and_yes (ltb 0 c.in-Begin.count) (leb c.in-Begin.count 8) (simp tab_length at k.1.1.0)).1 }
 
@@ -62,19 +74,19 @@ begin-requires c =
     let k = ranged c.args.table.bytes.now c.args.event _ c.in-Begin.is c.requires in
     let F = formed c.args.table.bytes.now c.args.table.formed in
     let p = ltb_yes k.0 in
-    (ltb_yes k.1.0, omega arith)
+    omega arith
 
-pub read-requires : goal.read-requires
+pub invariant_of-read : goal.invariant_of-read
 unfolding ranges
-read-requires c =
+invariant_of-read c =
     let k = ranged c.args.table.bytes.now c.args.event _ c.in-Read.is c.requires in
-    ltb_yes k.0
+    record { sixteen = ltb_yes k.0 }
 
-pub end-requires : goal.end-requires
+pub invariant_of-end : goal.invariant_of-end
 unfolding ranges
-end-requires c =
+invariant_of-end c =
     let k = ranged c.args.table.bytes.now c.args.event _ c.in-End.is c.requires in
-    ltb_yes k.0
+    record { sixteen = ltb_yes k.0 }
 
 pub invariant_of-beat : goal.invariant_of-beat
 unfolding ranges

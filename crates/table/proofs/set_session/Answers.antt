@@ -9,4 +9,4 @@ pub returns : goal.returns
 unfolding put_change kept_after put_core
 returns c =
     let a = c.args in
-    session_back a.t.now a.s _ c.session_at-off.ensures.0 _ (put_session (as_session a.x)) c.store.ensures
+    session_back a.t.now a.session.number _ c.session_at-off.ensures.0 _ (put_session (as_session a.x)) c.store.ensures

@@ -13,14 +13,14 @@ use Rattle.decision.proofs.lookup.session.Goals as goal
 pub load-requires : goal.load-requires
 load-requires c =
     let a = c.args in
-    (search rules, subst (λ b. load 1 b 3 ≤ 8) (sym c.session.ensures.0) (session-marks a.table.bytes.now c.args.table.formed a.s c.requires))
+    (search rules, subst (λ b. load 1 b 3 ≤ 8) (sym c.session.ensures.0) (session-marks a.table.bytes.now c.args.table.formed a.s.number c.args.s.sixteen))
 
 pub returns : goal.returns
 returns c =
     let a = c.args in
     let t = a.table.bytes.now in
     let told = c.load.ensures ∙ ap session_in c.session.ensures.0 in
-    let there = here_told c.load.result t c.args.table.formed a.s c.requires told in (
+    let there = here_told c.load.result t c.args.table.formed a.s.number c.args.s.sixteen told in (
       told,
       λ o. let here = there o in let F = formed t c.args.table.formed in omega (arith, F.sites),
       there,

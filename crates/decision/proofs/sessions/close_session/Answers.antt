@@ -13,10 +13,10 @@ pub returns-in_err-opened : goal.returns-in_err-opened
 returns-in_err-opened c =
     let a = c.args in
     let met = c.in_err-opened.ensures.err in
-    turned _ _ c.from_residual.ensures.1 _ met.0 ∙ sym (close_says a.table.bytes.now a.s (session_in (session_of a.table.bytes.now a.s)) refl ∙ rw met.1)
+    turned _ _ c.from_residual.ensures.1 _ met.0 ∙ sym (close_says a.table.bytes.now a.s.number (session_in (session_of a.table.bytes.now a.s.number)) refl ∙ rw met.1)
 
 pub returns : goal.returns
 returns c =
     let a = c.args in
     let x = c.in_ok-opened.ensures.ok in
-    c.kept.ensures ∙ ap (keeps Answer.Done _) c.closed.ensures ∙ sym (close_says a.table.bytes.now a.s (as_session c.in_ok-opened.field-0) x.says ∙ rw x.is_open)
+    c.kept.ensures ∙ ap (keeps Answer.Done _) c.closed.ensures ∙ sym (close_says a.table.bytes.now a.s.number (as_session c.in_ok-opened.field-0) x.says ∙ rw x.is_open)

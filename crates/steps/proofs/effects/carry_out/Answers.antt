@@ -7,21 +7,11 @@ use Rattle.outcome.specs.Decided.{changes_of}
 use Rattle.outcome.specs.declared.Effect.{Effect}
 use Rattle.steps.proofs.effects.carry_out.Goals as goal
 
-pub set_session-requires : goal.set_session-requires
-set_session-requires c =
-    let f = subst (λ (w : Effect). FitsAll (changes_of w) c.args.t.now) c.in-Keep.is c.requires.1 in
-    (c.requires.0, f.0.0)
-
 pub publish-requires : goal.publish-requires
 publish-requires c = (subst (λ (w : Effect). FitsAll (changes_of w) c.args.t.now) c.in-Beat.is c.requires.1).0
 
 pub publish-requires-in-Put : goal.publish-requires-in-Put
 publish-requires-in-Put c = (subst (λ (w : Effect). FitsAll (changes_of w) c.args.t.now) c.in-Put.is c.requires.1).0
-
-pub set_session-requires-in-Put : goal.set_session-requires-in-Put
-set_session-requires-in-Put c =
-    let f = (subst (λ (w : Effect). FitsAll (changes_of w) c.args.t.now) c.in-Put.is c.requires.1).1.0 in
-    (omega arith, f.0)
 
 pub receive-requires : goal.receive-requires
 receive-requires c = (subst (λ (w : Effect). FitsAll (changes_of w) c.args.t.now) c.in-Deliver.is c.requires.1).0
