@@ -13,7 +13,6 @@ use Rattle.codec.proofs.Tests.{cond_elim}
 use Rattle.protocol.specs.declared.Answer.TheVariants.{Done, Refused}
 use Rattle.protocol.specs.declared.reasons.Reason.{Reason}
 use Rattle.protocol.specs.Event.{plain}
-use Rattle.protocol.specs.Reason.{refusal_for}
 use Rattle.protocol.specs.Step.{step}
 use Rattle.event.specs.Event.{code_lawful, event_of}
 use Rattle.event.specs.Fields.{unused_zero}

@@ -1,9 +1,11 @@
 -- `archive::run` meets its contract: a table that is refused turns every piece away, and any other is stepped on as well formed.
-use mathlib.Core.Path.{sym, ap, ◌∙◌}
-use native.Mathlib.Omega.{arith}
-use Rattle.table.specs.Parts.{table_length}
+use mathlib.Core.Path.{◌≡◌, sym, ap, ◌∙◌}
+use mathlib.Core.List.{List}
+use Prim.Native.Nat.{ℕ, ◌+◌, ◌/◌, min}
+use lib.ListN.{length}
 use Rattle.lawful.proofs.Steps.{Sound}
-use Rattle.steps.specs.Run.{run_by}
+use Rattle.table.specs.Parts.{table_length}
+use Rattle.steps.specs.Run.{Ran, run_by}
 use Rattle.steps.proofs.Stepped.{is_yes}
 use Rattle.archive.specs.Call.{step_call}
 use Rattle.archive.specs.Run.{pieces_of, run_call}
@@ -11,38 +13,23 @@ use Rattle.archive.proofs.Calls.{run_no_table, run_ill, run_formed}
 use borrow.Author.Rules.{rules}
 use Rattle.archive.proofs.run.Goals as goal
 
-pub returns-then-table-ne-TABLE : goal.returns-then-table-ne-TABLE
+-- n is the number of pieces, and n steps were made
+counted : (t es b : List ℕ) (n : ℕ) {r : Ran} → n ≡ min ((length es + 31) / 32) (length b / 16) → r ≡ run_by step_call n t es b → (n ≡ pieces_of es b) × (r ≡ run_call t es b)
 unfolding pieces_of run_call
+counted t es b n e steps = (e, steps ∙ ap (λ k. run_by step_call k t es b) e)
+
+pub returns-then-table-ne-TABLE : goal.returns-then-table-ne-TABLE
 returns-then-table-ne-TABLE c =
-    let a = c.args in (
-      c.pieces_for-n.ensures,
-      c.refuse_all.ensures a.table.now
-          ∙ sym (run_no_table a.table.now a.events.now a.answers.now c.pieces_for-n.result c.if-table-ne-TABLE.true)
-          ∙ ap (λ n. run_by step_call n a.table.now a.events.now a.answers.now) c.pieces_for-n.ensures,
-    )
+    let away = c.refuse_all.ensures c.args.table.now in
+    counted _ _ _ _ c.pieces_for-n.ensures (away ∙ sym (run_no_table _ _ _ _ c.if-table-ne-TABLE.true))
 
 pub returns-then-not-well_formed : goal.returns-then-not-well_formed
-unfolding pieces_of run_call
 returns-then-not-well_formed c =
-    let a = c.args in (
-      c.pieces_for-n.ensures,
-      c.refuse_all-then-not-well_formed.ensures a.table.now
-          ∙ sym (run_ill a.table.now a.events.now a.answers.now c.pieces_for-n.result (search rules) (sym c.well_formed-2.ensures ∙ c.if-not-well_formed.true))
-          ∙ ap (λ n. run_by step_call n a.table.now a.events.now a.answers.now) c.pieces_for-n.ensures,
-    )
-
-pub run-requires : goal.run-requires
-run-requires c =
-    (search rules, is_yes _ (sym c.well_formed-2.ensures ∙ c.if-not-well_formed.false), omega arith)
+    let away = c.refuse_all-then-not-well_formed.ensures c.args.table.now in
+    counted _ _ _ _ c.pieces_for-n.ensures (away ∙ sym (run_ill _ _ _ _ (search rules) (sym c.well_formed-2.ensures ∙ c.if-not-well_formed.true)))
 
 pub returns : goal.returns
-unfolding pieces_of run_call
 returns c =
-    let a = c.args in
-    let S : Sound table_length a.table.now =
-    record { size = search rules; whole = search rules; bytes = search rules; formed = is_yes _ (sym c.well_formed-2.ensures ∙ c.if-not-well_formed.false) } in (
-      c.pieces_for-n.ensures,
-      c.run.ensures
-          ∙ sym (run_formed a.table.now a.events.now a.answers.now c.pieces_for-n.result S)
-          ∙ ap (λ n. run_by step_call n a.table.now a.events.now a.answers.now) c.pieces_for-n.ensures,
-    )
+    let S : Sound table_length c.args.table.now =
+    record { size = search rules; whole = search rules; bytes = search rules; formed = is_yes _ (sym c.well_formed-2.ensures ∙ c.if-not-well_formed.false) } in
+    counted _ _ _ _ c.pieces_for-n.ensures (c.run.ensures ∙ sym (run_formed _ _ _ _ S))

@@ -4,11 +4,7 @@ use Rattle.reader.proofs.Pieces.{piece_cut, piece_none}
 use Rattle.reader.proofs.piece.Goals as goal
 
 pub returns-then-n-i : goal.returns-then-n-i
-returns-then-n-i c =
-    let a = c.args in
-    piece_none a.events.now a.i (omega arith)
+returns-then-n-i c = piece_none _ _ (omega arith)
 
 pub returns : goal.returns
-returns c =
-    let a = c.args in
-    piece_cut a.events.now a.i c.min.result (omega arith)
+returns c = piece_cut _ _ _ (omega arith)

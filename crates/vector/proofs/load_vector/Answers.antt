@@ -7,6 +7,5 @@ use Rattle.vector.proofs.load_vector.Goals as goal
 pub returns : goal.returns
 unfolding entry load_vec
 returns c =
-    let a = c.args in
-    entry_is _ c.from_fn.result c.from_fn.ensures.items.long (load_vec-beyond a.t.now a.at)
+    entry_is _ _ c.from_fn.ensures.items.long (load_vec-beyond _ _)
     (each_site _ (search rules) (search rules) (search rules) (search rules))

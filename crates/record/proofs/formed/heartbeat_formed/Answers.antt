@@ -33,9 +33,8 @@ with_key key level v s q = elim (ℕ_discrete key 0) [
 pub returns : goal.returns
 unfolding heartbeat_formed
 returns c =
-    let key = c.load-key in
     let a = c.args in
     let b = a.b.now in
     rw
-    (c.none_above.ensures, c.load-level.ensures, c.load-quality.ensures, c.load-source.ensures, key.ensures)
+    (c.none_above.ensures, c.load-level.ensures, c.load-quality.ensures, c.load-source.ensures, c.load-key.ensures)
     (with_key (load 1 b a.at) (load 4 b (a.at + 4)) (load_vec b (a.at + 16)) (eqb (load 1 b (a.at + 1)) a.i) (eqb (load 1 b (a.at + 2)) 0))

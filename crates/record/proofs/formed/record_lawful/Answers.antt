@@ -1,10 +1,6 @@
 -- `record::formed::record_lawful` meets its contract, by the partition of the key and the test of the fields.
-use mathlib.Core.Path.{◌≡◌}
-use mathlib.Core.Bool.{true}
-use lib.Dec.{eqb}
+use mathlib.Core.Path.{sym, ◌∙◌}
 use borrow.Author.Tests.{eq-eqb, ne_eqb}
-use Rattle.protocol.specs.Record.{partition_of}
-use Rattle.protocol.specs.Meaning.{setting_of}
 use Rattle.record.specs.RecordBytes.{record_at}
 use Rattle.record.specs.Ranges.{record_lawful}
 use Rattle.record.proofs.formed.record_lawful.Goals as goal
@@ -18,5 +14,5 @@ returns-then-partition_of-p c =
 pub returns : goal.returns
 unfolding record_lawful record_at
 returns c =
-    let of-partition : eqb (partition_of (setting_of c.args.setting) (record_at c.args.b.now c.args.at).id.key) c.args.p ≡ true = rw (← c.load.ensures, ← c.partition_of.ensures) (eq-eqb c.partition_of.result c.args.p c.if-partition_of-p.false) in
-    rw of-partition c.record_in_range.ensures
+    let of-partition = rw c.load.ensures at c.partition_of.ensures in
+    rw (eq-eqb _ _ (sym of-partition ∙ c.if-partition_of-p.false)) c.record_in_range.ensures

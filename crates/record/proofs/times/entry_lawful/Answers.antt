@@ -8,7 +8,6 @@ use borrow.Author.Tests.{le-ltb, ne_eqb}
 use lib.Dec.{ltb, eqb}
 use Rattle.protocol.specs.Record.{Setting}
 use Rattle.protocol.specs.Times.{top_of}
-use Rattle.protocol.specs.Meaning.{setting_of}
 use Rattle.record.specs.Ranges.{stamp_lawful}
 use Rattle.record.proofs.times.entry_lawful.Goals as goal
 
@@ -21,6 +20,4 @@ below_limit c true x = refl
 below_limit c false x = below_one x
 
 pub returns : goal.returns
-returns c =
-    let a = c.args in
-    rw c.entry_limit.ensures (below_limit (setting_of a.setting) (ltb a.i a.setting.sites) a.x)
+returns c = rw c.entry_limit.ensures (below_limit _ _ _)

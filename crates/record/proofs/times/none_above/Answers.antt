@@ -13,4 +13,4 @@ pub returns : goal.returns
 returns c =
     let a = c.args in
     all_in_range 4 (λ i. leb (load 8 a.b.now (a.at + 8 * i)) a.x) c.all.ensures.ran (λ i b q k. search rules)
-    ∙ all_below_ext 4 _ _ (λ i l. rw (load_vec-below a.b.now a.at i l))
+    ∙ all_below_ext 4 _ _ (λ i l. rw (load_vec-below _ _ i l))

@@ -8,6 +8,5 @@ use Rattle.vector.proofs.Vector.larger_of.Goals as goal
 pub returns : goal.returns
 unfolding entry larger
 returns c =
-    let a = c.args in
-    entry_is _ c.from_fn.result c.from_fn.ensures.items.long (larger_narrow a.self.entries a.o.entries (search rules) (search rules))
+    entry_is _ _ c.from_fn.ensures.items.long (larger_narrow _ _ (search rules) (search rules))
     (each_site _ (search rules) (search rules) (search rules) (search rules))

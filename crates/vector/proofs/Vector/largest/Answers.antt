@@ -22,4 +22,4 @@ folded (a ∷ b ∷ c ∷ d ∷ x ∷ e) l = absurd (omega arith)
 pub returns : goal.returns
 returns c =
     let over : c.fold.result ≡ fold (λ a b. max a b) 0 c.args.self.entries = search rules in
-    over ∙ folded c.args.self.entries (search rules)
+    over ∙ folded _ (search rules)

@@ -5,6 +5,4 @@ use Rattle.vector.proofs.Entries.{entry_set}
 use Rattle.vector.proofs.Vector.with_entry.Goals as goal
 
 pub returns : goal.returns
-returns c =
-    let a = c.args in
-    entry_set a.self.entries a.m a.t (search rules) (omega arith)
+returns c = entry_set _ _ _ (search rules) (omega arith)
