@@ -7,6 +7,5 @@ use Rattle.table.proofs.places.kept.Goals as goal
 
 pub returns : goal.returns
 returns c =
-    let a = c.args in
-    let e = sym (kept_lent a.t.now a.m a.p _ c.kept_at-off.ensures.0 c.requires.1 c.requires.2) in
-    (e, ap length e ∙ length-kept a.t.now a.m a.p c.requires.0 c.requires.1 c.requires.2)
+    let e = sym (kept_lent c.args.t.now _ _ _ c.kept_at-off.ensures.0 c.requires.1 c.requires.2) in
+    (e, ap length e ∙ length-kept _ _ _ c.requires.0 c.requires.1 c.requires.2)

@@ -7,6 +7,5 @@ use Rattle.table.proofs.places.session.Goals as goal
 
 pub returns : goal.returns
 returns c =
-    let a = c.args in
-    let e = sym (session_lent a.t.now a.s _ c.session_at-off.ensures.0 c.requires.1) in
-    (e, ap length e ∙ length-session a.t.now a.s c.requires.0 c.requires.1)
+    let e = sym (session_lent c.args.t.now _ _ c.session_at-off.ensures.0 c.requires.1) in
+    (e, ap length e ∙ length-session _ _ c.requires.0 c.requires.1)
