@@ -20,7 +20,6 @@ use outcome::{Decided, Effect, answers};
 use parts::{channels, nodes};
 use protocol::Reason;
 use protocol::limits::{NodeAt, SessionAt};
-use record::bytes;
 use table::places;
 use vector::Vector;
 
@@ -125,7 +124,7 @@ pub fn deliver(table: Table, i: u8, node: NodeAt) -> Result<Decided, Reason>
         return Err(Reason::ChannelEmpty);
     }
     let x = channels::first(c);
-    if bytes::is_update(x) & !has_slot(table, node) {
+    if x.is_update() & !has_slot(table, node) {
         return Err(Reason::NodeFull);
     }
     Ok(answers::taken(i, node, x))

@@ -70,7 +70,7 @@ pub fn publish(n: &mut [u8], m: usize, x: Letter)
     requires { (length n.old ≡ 1856) × (m < 4) × Room (as_message x) n.old }
     ensures { n.new ≡ published m (as_message x) n.old }
 {
-    bytes::stamp(x).store(n, 8 + 8 * m);
+    x.stamp().store(n, 8 + 8 * m);
     store(n, x);
 }
 
@@ -81,6 +81,6 @@ pub fn receive(n: &mut [u8], i: usize, x: Letter)
 {
     let at = 8 + 8 * i;
     let heard = u64::load(n, at);
-    vector::later(heard, bytes::stamp(x)).store(n, at);
+    vector::later(heard, x.stamp()).store(n, at);
     store(n, x);
 }

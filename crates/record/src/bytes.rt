@@ -1,8 +1,6 @@
 // R17: a record and a message at a place of the bytes, read and written.
-// In order: reading, a letter's stamp and kind, writing.
-ghost use Rattle.std.specs.Prelude.{◌≡◌, ◌+◌, ◌≤◌, length, [], ◌∷◌};
-ghost use Rattle.protocol.specs.Record.{stamp_in};
-ghost use Rattle.protocol.specs.Needs.{front_updates};
+// In order: reading, writing.
+ghost use Rattle.std.specs.Prelude.{◌≡◌, ◌+◌, ◌≤◌, length};
 ghost use Rattle.record.specs.RecordBytes.{record_at, message_at, put_record, put_message};
 ghost use Rattle.record.specs.Meaning.{record_of, as_record, as_message};
 
@@ -54,27 +52,6 @@ pub fn load_message(b: &[u8], at: usize) -> Letter
             message,
             carried: Vector::ZERO,
         }
-    }
-}
-
-pub fn stamp(x: Letter) -> u64
-    ensures { result ≡ stamp_in (as_message x) }
-{
-    let message = x.message;
-    match message {
-        Message::Update(r) => r.stamp,
-        Message::Heartbeat { stamp } => stamp,
-    }
-}
-
-// Whether the letter is an update; only updates are stored.
-pub fn is_update(x: Letter) -> bool
-    ensures { result ≡ front_updates (as_message x ∷ []) }
-{
-    let message = x.message;
-    match message {
-        Message::Update(_) => true,
-        Message::Heartbeat { stamp: _ } => false,
     }
 }
 

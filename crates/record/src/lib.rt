@@ -39,3 +39,29 @@ pub struct Letter {
     pub message: Message,
     pub carried: Vector,
 }
+
+impl Letter {
+    ghost use Rattle.std.specs.Prelude.{◌≡◌, [], ◌∷◌};
+    ghost use Rattle.protocol.specs.Record.{stamp_in};
+    ghost use Rattle.protocol.specs.Needs.{front_updates};
+    ghost use Rattle.record.specs.Meaning.{as_message};
+
+    pub fn stamp(self) -> u64
+        ensures { result ≡ stamp_in (as_message self) }
+    {
+        match self.message {
+            Message::Update(r) => r.stamp,
+            Message::Heartbeat { stamp } => stamp,
+        }
+    }
+
+    // Whether it is an update; only updates are stored.
+    pub fn is_update(self) -> bool
+        ensures { result ≡ front_updates (as_message self ∷ []) }
+    {
+        match self.message {
+            Message::Update(_) => true,
+            Message::Heartbeat { stamp: _ } => false,
+        }
+    }
+}

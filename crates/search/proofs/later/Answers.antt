@@ -2,7 +2,6 @@
 use mathlib.Core.Path.{sym, ◌∙◌}
 use native.Mathlib.Omega.{arith}
 use borrow.Author.Rules.{rules}
-use Rattle.protocol.specs.Record.{Setting}
 use Rattle.protocol.proofs.Places.{later_yes, later_no}
 use Rattle.record.specs.RecordBytes.{record_at}
 use Rattle.search.proofs.Compared.{later_by_stamp}
@@ -16,13 +15,9 @@ by_source-requires c =
 pub returns-then-best-than : goal.returns-then-best-than
 unfolding record_at
 returns-then-best-than c =
-    let a = c.args in
-    let tested = λ (d : Setting). later_by_stamp d a.n.now a.k a.best _ _ c.load-stamp.ensures c.load-than.ensures c.if-than-stamp.false in
-    (λ d. later_yes d _ a.k a.best (sym (tested d) ∙ c.if-best-than.true), omega arith)
+    (λ d. later_yes d _ _ _ (sym (later_by_stamp d _ _ _ _ _ c.load-stamp.ensures c.load-than.ensures c.if-than-stamp.false) ∙ c.if-best-than.true), omega arith)
 
 pub returns-else-best-than : goal.returns-else-best-than
 unfolding record_at
 returns-else-best-than c =
-    let a = c.args in
-    let tested = λ (d : Setting). later_by_stamp d a.n.now a.k a.best _ _ c.load-stamp.ensures c.load-than.ensures c.if-than-stamp.false in
-    (λ d. later_no d _ a.k a.best (sym (tested d) ∙ c.if-best-than.false), omega arith)
+    (λ d. later_no d _ _ _ (sym (later_by_stamp d _ _ _ _ _ c.load-stamp.ensures c.load-than.ensures c.if-than-stamp.false) ∙ c.if-best-than.false), omega arith)

@@ -1,8 +1,6 @@
 -- `table::take_off` meets its contract, by what comes back of the site's part.
 use native.Mathlib.Omega.{arith}
 use borrow.Author.Rules.{rules}
-use Rattle.parts.specs.Channel.{popped}
-use Rattle.table.specs.Parts.{on_channel}
 use Rattle.table.proofs.Lent.{site_lent, site_back}
 use Rattle.table.proofs.take_off.Goals as goal
 
@@ -12,6 +10,4 @@ pop-requires c =
     (search rules, omega arith, omega arith, rw (← site_lent a.t.now a.i _ c.site_at-off.ensures.0 (omega arith)) c.requires.4)
 
 pub returns : goal.returns
-returns c =
-    let a = c.args in
-    site_back a.t.now a.i _ c.site_at-off.ensures.0 _ (on_channel a.p a.d popped) c.pop.ensures
+returns c = site_back _ _ _ c.site_at-off.ensures.0 _ _ c.pop.ensures

@@ -7,6 +7,5 @@ use Rattle.table.proofs.places.channel_of.Goals as goal
 
 pub returns : goal.returns
 returns c =
-    let a = c.args in
-    let e = sym (channel_lent a.site.now a.p a.d _ c.channel_at-off.ensures.0 c.requires.1 c.requires.2) in
-    (e, ap length e ∙ length_channel a.site.now a.p a.d c.requires.0 c.requires.1 c.requires.2)
+    let e = sym (channel_lent c.args.site.now _ _ _ c.channel_at-off.ensures.0 c.requires.1 c.requires.2) in
+    (e, ap length e ∙ length_channel _ _ _ c.requires.0 c.requires.1 c.requires.2)

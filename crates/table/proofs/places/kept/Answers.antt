@@ -7,6 +7,6 @@ use Rattle.table.proofs.places.kept.Goals as goal
 
 pub returns : goal.returns
 returns c =
-    let a = c.args in
-    let e = sym (kept_lent a.t.now a.node.site a.node.partition _ c.kept_at-off.ensures.0 a.node.four_sites a.node.four_partitions) in
-    (e, ap length e ∙ length-kept a.t.now a.node.site a.node.partition c.requires a.node.four_sites a.node.four_partitions)
+    let n = c.args.node in
+    let e = sym (kept_lent c.args.t.now _ _ _ c.kept_at-off.ensures.0 n.four_sites n.four_partitions) in
+    (e, ap length e ∙ length-kept _ _ _ c.requires n.four_sites n.four_partitions)

@@ -7,6 +7,5 @@ use Rattle.table.proofs.places.node_of.Goals as goal
 
 pub returns : goal.returns
 returns c =
-    let a = c.args in
-    let e = sym (node_lent a.site.now a.p _ c.node_at-off.ensures.0 c.requires.1) in
-    (e, ap length e ∙ length_node a.site.now a.p c.requires.0 c.requires.1)
+    let e = sym (node_lent c.args.site.now _ _ c.node_at-off.ensures.0 c.requires.1) in
+    (e, ap length e ∙ length_node _ _ c.requires.0 c.requires.1)

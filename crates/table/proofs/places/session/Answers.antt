@@ -7,6 +7,5 @@ use Rattle.table.proofs.places.session.Goals as goal
 
 pub returns : goal.returns
 returns c =
-    let a = c.args in
-    let e = sym (session_lent a.t.now a.session.number _ c.session_at-off.ensures.0 a.session.sixteen) in
-    (e, ap length e ∙ length-session a.t.now a.session.number c.requires a.session.sixteen)
+    let e = sym (session_lent c.args.t.now _ _ c.session_at-off.ensures.0 c.args.session.sixteen) in
+    (e, ap length e ∙ length-session _ _ c.requires c.args.session.sixteen)

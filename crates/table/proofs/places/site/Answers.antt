@@ -7,6 +7,5 @@ use Rattle.table.proofs.places.site.Goals as goal
 
 pub returns : goal.returns
 returns c =
-    let a = c.args in
-    let e = sym (site_lent a.t.now a.m _ c.site_at-off.ensures.0 c.requires.1) in
-    (e, ap length e ∙ length-site a.t.now a.m c.requires.0 c.requires.1)
+    let e = sym (site_lent c.args.t.now _ _ c.site_at-off.ensures.0 c.requires.1) in
+    (e, ap length e ∙ length-site _ _ c.requires.0 c.requires.1)

@@ -1,7 +1,6 @@
 -- `table::sites::pop` meets its contract, by what comes back of the channel.
 use native.Mathlib.Omega.{arith}
 use borrow.Author.Rules.{rules}
-use Rattle.parts.specs.Channel.{popped}
 use Rattle.table.proofs.Lent.{channel_lent, channel_back}
 use Rattle.table.proofs.sites.pop.Goals as goal
 
@@ -11,6 +10,4 @@ pop-requires c =
     (search rules, rw (← channel_lent a.site.now a.p a.d _ c.channel_at-off.ensures.0 (omega arith) (omega arith)) c.requires.3)
 
 pub returns : goal.returns
-returns c =
-    let a = c.args in
-    channel_back a.site.now a.p a.d _ c.channel_at-off.ensures.0 _ popped c.pop.ensures
+returns c = channel_back _ _ _ _ c.channel_at-off.ensures.0 _ _ c.pop.ensures

@@ -1,8 +1,6 @@
 -- `table::sites::receive` meets its contract, by what comes back of the node.
 use native.Mathlib.Omega.{arith}
 use borrow.Author.Rules.{rules}
-use Rattle.record.specs.Meaning.{as_message}
-use Rattle.parts.specs.Node.{received}
 use Rattle.table.proofs.Lent.{node_lent, node_back}
 use Rattle.table.proofs.sites.receive.Goals as goal
 
@@ -12,6 +10,4 @@ receive-requires c =
     (search rules, omega arith, rw (← node_lent a.site.now a.p _ c.node_at-off.ensures.0 (omega arith)) c.requires.3)
 
 pub returns : goal.returns
-returns c =
-    let a = c.args in
-    node_back a.site.now a.p _ c.node_at-off.ensures.0 _ (received a.i (as_message a.x)) c.receive.ensures
+returns c = node_back _ _ _ c.node_at-off.ensures.0 _ _ c.receive.ensures
