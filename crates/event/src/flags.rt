@@ -1,9 +1,10 @@
 // R31 and R33: each code uses the fields named for it, and all others are zero. In order: the table of flags, and the tests
 // for zero. It reads the event alone.
-ghost use Rattle.std.specs.Prelude.{◌≡◌, ◌<◌, length};
+ghost use Rattle.std.specs.Prelude.{◌≡◌, ◌<◌};
 ghost use Rattle.event.specs.Fields.{rest_zero};
 ghost use Rattle.event.specs.Ranges.{used_by, zero_in};
 
+use crate::EventBytes;
 use codec::Number;
 
 const YES: bool = true;
@@ -33,8 +34,7 @@ pub fn used(row: usize) -> [bool; 10]
 }
 
 // Of each field, whether its bytes are zero.
-pub fn zero(e: &[u8]) -> [bool; 10]
-    requires { length e.now ≡ 32 }
+pub fn zero(e: &EventBytes) -> [bool; 10]
     ensures { result ≡ zero_in e.now }
 {
     [
@@ -52,8 +52,7 @@ pub fn zero(e: &[u8]) -> [bool; 10]
 }
 
 // R33: page keys beyond the count are zero. Most events have no page keys at all.
-pub fn rest_zero(e: &[u8]) -> bool
-    requires { length e.now ≡ 32 }
+pub fn rest_zero(e: &EventBytes) -> bool
     ensures { result ≡ rest_zero e.now }
 {
     if u64::load(e, 20) == 0 {

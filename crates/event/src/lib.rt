@@ -1,9 +1,9 @@
-// R30: what an event's 32 bytes say, and refusals 10 and 11. In order: the fields as values, the event that they say by their code, all the fields' tests, and an
-// event that is read and tested. Which code uses which field is in flags, the range of each field in bounds. It reads the event alone.
+// R30: what an event's 32 bytes say, and refusals 10 and 11. In order: the bytes, the fields as values, the event that they say by their code, all the fields'
+// tests, and an event that is read and tested. Which code uses which field is in flags, the range of each field in bounds. It reads the event alone.
 
 #![tactic(auto)]
 
-ghost use Rattle.std.specs.Prelude.{◌≡◌, true, ◌&&◌, length, IfOk, IfErr};
+ghost use Rattle.std.specs.Prelude.{◌≡◌, true, ◌&&◌, IfOk, IfErr};
 ghost use Rattle.codec.specs.Below.{all_below};
 ghost use Rattle.protocol.specs.Needs.{ranges};
 ghost use Rattle.protocol.specs.Meaning.{setting_of};
@@ -18,6 +18,11 @@ use protocol::limits::Setting;
 
 mod bounds;
 mod flags;
+
+// Whoever has a slice tests its length, so that an event of another length is not read.
+pub const EVENT: usize = 32;
+
+pub type EventBytes = [u8; EVENT];
 
 // The numbers of an event's fields, of whatever code.
 #[derive(Clone, Copy)]
@@ -35,8 +40,7 @@ pub struct Fields {
     pub keys: [u8; 8],
 }
 
-pub fn load_fields(e: &[u8]) -> Fields
-    requires { length e.now ≡ 32 }
+pub fn load_fields(e: &EventBytes) -> Fields
     ensures { result ≡ fields_in e.now }
 {
     Fields {
@@ -171,8 +175,8 @@ fn each_lawful(used: [bool; 10], zero: [bool; 10], within: [bool; 10]) -> bool
 }
 
 // A used field out of range (R32) or an unused one that is not zero (R33) is refused with 11.
-pub fn fields_lawful(e: &[u8], setting: Setting) -> bool
-    requires { (length e.now ≡ 32) × (code_lawful e.now ≡ true) }
+pub fn fields_lawful(e: &EventBytes, setting: Setting) -> bool
+    requires { code_lawful e.now ≡ true }
     ensures { result ≡ (unused_zero e.now && met (ranges (setting_of setting) (event_of e.now))) }
 {
     let x = load_fields(e);
@@ -182,8 +186,7 @@ pub fn fields_lawful(e: &[u8], setting: Setting) -> bool
 }
 
 // An event as its bytes say it, in an archive with this setting.
-pub fn read(e: &[u8], setting: Setting) -> Result<Event, Reason>
-    requires { length e.now ≡ 32 }
+pub fn read(e: &EventBytes, setting: Setting) -> Result<Event, Reason>
     ensures ok { IfOk result (λ v. (as_event v ≡ event_of e.now) × (code_lawful e.now ≡ true) × ((unused_zero e.now && met (ranges (setting_of setting) (event_of e.now))) ≡ true)) }
     ensures err { IfErr result (λ w. IsRefusal (code_lawful e.now) (unused_zero e.now && met (ranges (setting_of setting) (event_of e.now))) w) }
 {

@@ -15,7 +15,7 @@ ghost use Rattle.decision.specs.Answered.{answered};
 ghost use Rattle.steps.specs.Step.{gives, step_on, told};
 
 use decision::{pages, sessions, writes};
-use event::Event;
+use event::{Event, EventBytes};
 use lawful::Table;
 use outcome::Decided;
 use parts::Keys;
@@ -77,7 +77,8 @@ fn served(t: &mut [u8], e: &[u8]) -> Result<Answer, Reason>
     requires { Whole t.old × T (well_formed t.old) × (length e.now ≡ 32) }
     ensures { gives (told result) t.new ≡ step_on t.old e.now }
 {
-    let event = event::read(e, table::setting(t))?;
+    let bytes = <&EventBytes>::try_from(e).unwrap();
+    let event = event::read(bytes, table::setting(t))?;
     let decided = decide(Table { bytes: t }, event)?;
     effects::carry_out(t, decided.effect);
     Ok(decided.answer)

@@ -2,7 +2,7 @@
 use Prim.Native.Nat.{ℕ}
 use mathlib.Core.Path.{◌≡◌, sym, ap, ◌∙◌}
 use mathlib.Core.List.{List}
-use Rattle.std.proofs.lemmas.Result.{IfErr-at_err, err_from_is_err_and}
+use Rattle.std.proofs.lemmas.Result.{err_from_is_err_and}
 use Rattle.event.specs.declared.Fields.{Fields}
 use Rattle.event.specs.Event.{code_lawful}
 use Rattle.event.specs.Meaning.{event_from, known, fields_in, IsRefusal}
@@ -20,7 +20,7 @@ returns-in_err-event-clause-err c =
     rw (p.1, p.2, met.1) (IsRefusal.unknown (code_known c.args.e.now _ c.load_fields.ensures ∙ met.0))
 
 pub fields_lawful-requires : goal.fields_lawful-requires
-fields_lawful-requires c = (c.requires, code_known c.args.e.now _ c.load_fields.ensures ∙ c.in_ok-event.ensures.0)
+fields_lawful-requires c = code_known c.args.e.now _ c.load_fields.ensures ∙ c.in_ok-event.ensures.0
 
 pub returns-then-not-fields_lawful-clause-err : goal.returns-then-not-fields_lawful-clause-err
 returns-then-not-fields_lawful-clause-err c =
