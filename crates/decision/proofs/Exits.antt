@@ -8,7 +8,6 @@ use Rattle.protocol.specs.declared.Answer.TheVariants.{Refused}
 use Rattle.protocol.specs.declared.reasons.Reason.{Reason}
 use Rattle.protocol.specs.Reason.{refusal_for}
 use Rattle.protocol.specs.Serve.{Outcome, ◌and◌}
-use Rattle.protocol.proofs.Ladders.{refuse}
 use Rattle.outcome.specs.Decided.{decided_of}
 use Rattle.outcome.specs.declared.Decided.{Decided}
 

@@ -1,10 +1,7 @@
 -- `lawful::well_formed` meets its contract, whichever test fails first.
-use mathlib.Core.Path.{sym, subst, ◌∙◌}
-use lib.Dec.{T}
+use mathlib.Core.Path.{sym, ◌∙◌}
 use Rattle.codec.proofs.Tests.{fails, passes, every_fails, every-joined}
 use Rattle.lawful.specs.WellFormed.{well_formed}
-use Rattle.lawful.proofs.Facts.{setting_facts}
-use borrow.Author.Rules.{rules}
 use Rattle.lawful.proofs.well_formed.Goals as goal
 
 pub returns-then-not-setting_lawful : goal.returns-then-not-setting_lawful

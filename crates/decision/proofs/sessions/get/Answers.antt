@@ -1,6 +1,5 @@
 -- `decision::sessions::get` meets its contract: each return is a rung of the ladder.
 use mathlib.Core.Path.{◌≡◌, refl, sym, ◌∙◌}
-use borrow.Author.Rules.{rules}
 use Rattle.vector.specs.Meaning.{as_vec}
 use Rattle.protocol.specs.Record.{of_key}
 use Rattle.protocol.specs.Shelf.{found}

@@ -4,7 +4,6 @@ use native.Mathlib.Omega.{arith}
 use borrow.Author.Tests.{le-leb, lt-leb}
 use Rattle.parts.specs.Node.{clock_in}
 use Rattle.table.specs.Parts.{site_of, node_of}
-use Rattle.lawful.proofs.Facts.{formed}
 use Rattle.decision.proofs.Times.{clock-answered}
 use Rattle.decision.proofs.writes.clock.Goals as goal
 

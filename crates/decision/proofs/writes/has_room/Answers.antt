@@ -1,5 +1,5 @@
 -- `decision::writes::has_room` meets its contract: `all` says it of the first d channels.
-use mathlib.Core.Path.{◌≡◌, sym, ap, ◌∙◌}
+use mathlib.Core.Path.{◌≡◌, sym}
 use Prim.Native.Nat.{◌-◌}
 use native.Mathlib.Omega.{arith}
 use Rattle.codec.specs.Le.{load}

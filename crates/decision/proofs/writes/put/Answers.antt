@@ -1,5 +1,4 @@
 -- `decision::writes::put` meets its contract, by the tests in their order.
-use native.Mathlib.Omega.{arith}
 use mathlib.Core.Path.{◌≡◌, refl, sym, ◌∙◌}
 use mathlib.Core.Bool.{cond}
 use lib.Dec.{ltb}

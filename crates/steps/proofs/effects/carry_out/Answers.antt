@@ -1,6 +1,5 @@
 -- `steps::effects::carry_out` meets its contract, effect by effect.
 use mathlib.Core.Path.{sym, subst}
-use native.Mathlib.Omega.{arith}
 use Rattle.table.specs.Put.{put_changes}
 use Rattle.table.specs.Fits.{FitsAll}
 use Rattle.outcome.specs.Decided.{changes_of}
