@@ -93,7 +93,7 @@ pub fn done(effect: Effect) -> Decided
     }
 }
 
-// R45: the record carries the session's vector as it was before; then the session's own entry becomes the stamp. The node is of the session's site.
+// R45: the record carries the session's vector as it was before; then the session's own entry becomes the stamp. The node is one of the session's site.
 pub fn stored(
     s: SessionAt,
     x: Session,
@@ -103,14 +103,12 @@ pub fn stored(
     level: i32,
     stamp: u64,
 ) -> Decided
-    requires { x.site ≡ node.site }
-    ensures { outcome_of result ≡ (Stamped x.site stamp and Publish x.site node.partition (Update (written (as_session x) key quality level stamp)) ∷ SetSession s.number (with_vec (as_session x) (with_entry (as_session x).vec x.site stamp)) ∷ []) }
+    ensures { outcome_of result ≡ (Stamped node.site stamp and Publish node.site node.partition (Update (written (as_session x) key quality level stamp)) ∷ SetSession s.number (with_vec (as_session x) (with_entry (as_session x).vec node.site stamp)) ∷ []) }
 {
-    let source = node.site;
-    let vec = x.vec.with_entry(source as usize, stamp);
+    let vec = x.vec.with_entry(node.site as usize, stamp);
     let message = Message::Update(Numbers {
         key,
-        source,
+        source: x.site,
         quality,
         level,
         stamp,
@@ -120,7 +118,10 @@ pub fn stored(
         carried: x.vec,
     };
     Decided {
-        answer: Answer::Stamped { source, stamp },
+        answer: Answer::Stamped {
+            source: node.site,
+            stamp,
+        },
         effect: Effect::Put {
             session: s,
             kept: keeping::with_vector(x, vec),

@@ -54,9 +54,6 @@ returns-then-stamp-pass c =
     (put_there c.args.table.bytes.now c.args.s.number c.args.key c.args.quality c.args.level (as_session c.in_ok-x.x) c.in_ok-x.ensures.ok.says c.node_of-node.result.partition c.node_of-node.ensures.1 c.in_ok-x.ensures.ok.is_open c.if-x.false c.in_ok-x.ensures.ok.there (formed c.args.table.bytes.now c.args.table.formed).sites) ∙ rw (slot, room, c.clock-stamp.ensures, c.node.ensures.0, c.to_pass-pass.ensures, c.node_of-node.ensures.0) in
     sym (by_clock ∙ rw (le-ltb c.to_pass-pass.result c.clock-stamp.result c.if-stamp-pass.true))
 
-pub stored-requires : goal.stored-requires
-stored-requires c = sym c.node_of-node.ensures.0
-
 pub returns : goal.returns
 unfolding roomy
 returns c =
@@ -64,4 +61,4 @@ returns c =
     let slot = rw c.node_of-node.ensures.0 at (sym c.has_slot.ensures ∙ c.if-not-has_slot.false) in
     let room = rw c.node_of-node.ensures.0 at (sym c.has_room.ensures ∙ c.if-not-has_room.false) in
     (put_there c.args.table.bytes.now c.args.s.number c.args.key c.args.quality c.args.level (as_session c.in_ok-x.x) c.in_ok-x.ensures.ok.says c.node_of-node.result.partition c.node_of-node.ensures.1 c.in_ok-x.ensures.ok.is_open c.if-x.false c.in_ok-x.ensures.ok.there (formed c.args.table.bytes.now c.args.table.formed).sites) ∙ rw (slot, room, c.clock-stamp.ensures, c.node.ensures.0, c.to_pass-pass.ensures, c.node_of-node.ensures.0) in
-    c.stored.ensures ∙ sym (by_clock ∙ rw (lt-ltb c.to_pass-pass.result c.clock-stamp.result c.if-stamp-pass.false, to_z-of_z w32 c.args.level (search rules)))
+    rw c.node_of-node.ensures.0 at c.stored.ensures ∙ sym (by_clock ∙ rw (lt-ltb c.to_pass-pass.result c.clock-stamp.result c.if-stamp-pass.false, to_z-of_z w32 c.args.level (search rules)))

@@ -8,4 +8,4 @@ use Rattle.outcome.proofs.answers.stored.Goals as goal
 pub returns : goal.returns
 unfolding written
 returns c =
-    rw (c.with_vector.ensures, c.with_entry-vec.ensures, to_z-of_z w32 c.args.level (search rules), c.requires)
+    rw (c.with_vector.ensures, c.with_entry-vec.ensures, to_z-of_z w32 c.args.level (search rules))
