@@ -33,7 +33,6 @@ pub fn setting_lawful(setting: Setting) -> bool
     number_lawful(setting.sites as u32) & number_lawful(setting.partitions as u32)
 }
 
-// A loop, as in `sites_formed`: with `all` the check of a table is slower by a twentieth.
 // A table that is well formed, lent for reading.
 #[derive(Clone, Copy)]
 pub struct Table<'a> {
@@ -42,6 +41,7 @@ pub struct Table<'a> {
     ghost formed: { T (well_formed bytes.now) },
 }
 
+// Loops, in this and the next: with `all` the check of a table is slower by a twentieth.
 fn sessions_formed(t: &[u8], setting: Setting) -> bool
     requires { Long t.now }
     ensures { result ≡ all_below 16 (λ s. session_formed (setting_of setting) (session_of t.now s)) }
