@@ -80,7 +80,7 @@ delivers = event 10 1 0 0 0 0 0
 
 -- a proof that unfolds this lets the checker compute whole runs from bytes
 unfoldable reading : Unit {0}
-unfolding computing after four opens clock_to puts_level gets delivers is_event events_of code_lawful unused_zero uses zero_at rest_zero event_of load level_from tabulate all_below length
+unfolding computing after four opens clock_to puts_level gets delivers is_event events_of code_lawful unused_zero uses zero_at rest_zero event_of load level_from tabulate all_below
 reading = tt
 
 -- what `step` answers after some events, and what its table then says, by the protocol
