@@ -1,6 +1,6 @@
 // What decisions read of a well-formed table: a session, and one that has to be open; a key's partition; and of a node what it has heard, its newest record for
 // a page, and its newest record of a key by the kept place.
-ghost use Rattle.std.specs.Prelude.{◌≡◌, true, false, ◌<◌, IfOk, IfErr};
+ghost use Rattle.std.specs.Prelude.{◌≡◌, true, false, ◌<◌, ◌≤◌, IfOk, IfErr};
 ghost use Rattle.vector.specs.Entries.{entry};
 ghost use Rattle.codec.specs.Le.{load};
 ghost use Rattle.vector.specs.Meaning.{as_vec};
@@ -23,9 +23,9 @@ use search::Wanted;
 use table::places;
 use vector::Vector;
 
-// A session; the site of an open one exists.
+// A session, of which at most eight keys are in use; the site of an open one exists.
 pub fn session(table: Table, s: SessionAt) -> Session
-    ensures { (as_session result ≡ session_in (session_of table.entry.bytes.now s.number)) × (result.open ≡ true → result.site < 4) × (result.open ≡ true → result.site < load 1 table.entry.bytes.now 0) }
+    ensures { (as_session result ≡ session_in (session_of table.entry.bytes.now s.number)) × (result.marks.page.count ≤ 8) × (result.open ≡ true → result.site < 4) × (result.open ≡ true → result.site < load 1 table.entry.bytes.now 0) }
 {
     sessions::load(places::session(table.bytes, s))
 }

@@ -1,5 +1,5 @@
 // The decisions of a page: BEGIN, READ and END. Each takes the session, tests it from top to bottom as R60 has it, and decides.
-ghost use Rattle.std.specs.Prelude.{◌≡◌, ◌<◌};
+ghost use Rattle.std.specs.Prelude.{◌≡◌, ◌<◌, ◌≤◌};
 ghost use Rattle.protocol.specs.Event.{BEGIN, READ, END};
 ghost use Rattle.parts.specs.Pages.{keys_on};
 ghost use Rattle.table.specs.Decode.{decode};
@@ -15,7 +15,7 @@ use protocol::{Answer, Reason};
 
 // BEGIN of a page of these keys, with the node of partition p as its coordinator.
 pub fn begin(table: Table, s: SessionAt, p: u8, keys: Keys) -> Result<Decided, Reason>
-    requires { p < 4 }
+    requires { (p < 4) × (keys.count ≤ 8) }
     ensures { decided_of result ≡ answered (decode table.entry.bytes.now) (BEGIN s.number p (keys_on keys)) }
 {
     let x = lookup::opened(table, s)?;

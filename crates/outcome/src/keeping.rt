@@ -1,5 +1,5 @@
 // Sessions as decisions leave them, by value. In order: closed and opened, another vector, and a page that is begun, read on and ended.
-ghost use Rattle.std.specs.Prelude.{◌≡◌, ◌<◌};
+ghost use Rattle.std.specs.Prelude.{◌≡◌, ◌≤◌};
 ghost use Rattle.vector.specs.Meaning.{as_vec};
 ghost use Rattle.protocol.specs.State.{no_page, closed, opened, with_vec, with_page};
 ghost use Rattle.protocol.specs.Serve.{begun, read_on};
@@ -51,6 +51,7 @@ pub fn with_vector(x: Session, vec: Vector) -> Session
 
 // With a page of these keys, none read, begun by a coordinator that has this vector.
 pub fn begun(x: Session, coordinator: Vector, keys: Keys) -> Session
+    requires { keys.count ≤ 8 }
     ensures { as_session result ≡ with_page (as_session x) (begun (as_vec coordinator) (as_session x).vec (keys_on keys)) }
 {
     Session {
@@ -64,7 +65,7 @@ pub fn begun(x: Session, coordinator: Vector, keys: Keys) -> Session
 
 // With key k of its page read, and gathered what was found.
 pub fn read_on(x: Session, k: u8, found: Option<Record>) -> Session
-    requires { Sited found }
+    requires { (x.marks.page.count ≤ 8) × Sited found }
     ensures { as_session result ≡ with_page (as_session x) (read_on (as_session x).page k (found_of found)) }
 {
     Session {

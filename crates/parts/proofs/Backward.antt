@@ -47,8 +47,7 @@ marks-unread zero f = refl
 marks-unread (suc n) f = rw (marks-unread n (λ i. f (suc i)))
 
 -- a page begins with no key read
-pub marks-begun : (x : Keys) → marks_on (record { page = x; read = replicate 8 false }) ≡ unread (keys_on x)
-marks-begun x =
-    let few = x.few in
+pub marks-begun : (x : Keys) → x.count ≤ 8 → marks_on (record { page = x; read = replicate 8 false }) ≡ unread (keys_on x)
+marks-begun x few =
     tab_ext x.count (λ i. record { key = get_or x.keys i 0; read = get_or (replicate 8 false) i false }) (λ i. record { key = get_or x.keys i 0; read = false }) (λ i b. rw (get_or-replicate 8 i false false (omega arith)))
     ∙ sym (marks-unread x.count (λ i. get_or x.keys i 0))

@@ -40,8 +40,7 @@ marks-step b i n f h =
 
 -- ---- the marks that are loaded
 
-pub marks_loaded : (b : List ℕ) (x : Marks) → ((i : ℕ) → i < 8 → get_or x.page.keys i 0 ≡ load 1 b (8 + i)) → ((i : ℕ) → i < 8 → get_or x.read i false ≡ eqb (load 1 b (16 + i)) 1) → x.page.count ≡ load 1 b 3 → marks_on x ≡ tabulate (load 1 b 3) (mark_at b)
+pub marks_loaded : (b : List ℕ) (x : Marks) → x.page.count ≤ 8 → ((i : ℕ) → i < 8 → get_or x.page.keys i 0 ≡ load 1 b (8 + i)) → ((i : ℕ) → i < 8 → get_or x.read i false ≡ eqb (load 1 b (16 + i)) 1) → x.page.count ≡ load 1 b 3 → marks_on x ≡ tabulate (load 1 b 3) (mark_at b)
 unfolding mark_at
-marks_loaded b x ks ms e =
-    let few = x.page.few in
+marks_loaded b x few ks ms e =
     rw (← e) (tab_ext x.page.count _ _ (λ i l. rw (ks i (omega arith), ms i (omega arith))))

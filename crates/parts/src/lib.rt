@@ -3,8 +3,6 @@
 
 #![tactic(auto)]
 
-ghost use Rattle.std.specs.Prelude.{◌≤◌};
-
 use vector::Vector;
 
 pub mod channels;
@@ -12,12 +10,11 @@ pub mod nodes;
 pub mod pages;
 pub mod sessions;
 
-// The keys of a page: the first `count` of eight are in use.
+// The keys of a page: the first `count` of eight are in use. What is asked of a session says nothing of its count, so no fact stands here.
 #[derive(Clone, Copy)]
 pub struct Keys {
     pub keys: [u8; 8],
     pub count: u8,
-    ghost few: { count ≤ 8 },
 }
 
 // The keys of a page, and which of them were read.

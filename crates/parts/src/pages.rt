@@ -11,7 +11,7 @@ use crate::{Keys, Marks};
 impl Keys {
     // Whether one of the keys from place `from` on is k.
     fn holds(self, from: usize, k: u8) -> bool
-        requires { from ≤ self.count }
+        requires { (from ≤ self.count) × (self.count ≤ 8) }
         ensures { result ≡ has (keys_from self from) k }
     {
         let count = self.count as usize;
@@ -24,6 +24,7 @@ impl Keys {
 
     // Whether no key stands twice (R46).
     pub fn distinct(self) -> bool
+        requires { self.count ≤ 8 }
         ensures { result ≡ distinct (keys_on self) }
     {
         let count = self.count as usize;
@@ -38,6 +39,7 @@ impl Keys {
 impl Marks {
     // The marks of a page that begins: no key is read.
     pub fn unread(page: Keys) -> Marks
+        requires { page.count ≤ 8 }
         ensures { marks_on result ≡ unread (keys_on page) }
     {
         Marks {
@@ -48,6 +50,7 @@ impl Marks {
 
     // Whether key k is on the page and not read yet.
     pub fn awaited(self, k: u8) -> bool
+        requires { self.page.count ≤ 8 }
         ensures { result ≡ awaited k (marks_on self) }
     {
         let count = self.page.count as usize;
@@ -60,6 +63,7 @@ impl Marks {
 
     // Whether every key of the page is read.
     pub fn all_read(self) -> bool
+        requires { self.page.count ≤ 8 }
         ensures { result ≡ all_read (marks_on self) }
     {
         let count = self.page.count as usize;
@@ -72,6 +76,7 @@ impl Marks {
 
     // The marks once key k is read.
     pub fn with_read(self, k: u8) -> Marks
+        requires { self.page.count ≤ 8 }
         ensures { marks_on result ≡ mark_read k (marks_on self) }
     {
         let page = self.page;

@@ -65,7 +65,7 @@ fn store_mark(b: &mut [u8], i: usize, key: u8, read: bool)
 }
 
 fn store_marks(b: &mut [u8], x: Marks)
-    requires { length b.old ≡ 128 }
+    requires { (length b.old ≡ 128) × (x.page.count ≤ 8) }
     ensures { b.new ≡ put_marks b.old 0 (marks_on x) }
 {
     let page = x.page;
@@ -87,7 +87,7 @@ fn store_head(b: &mut [u8], x: Session)
 }
 
 pub fn store(b: &mut [u8], x: Session)
-    requires { length b.old ≡ 128 }
+    requires { (length b.old ≡ 128) × (x.marks.page.count ≤ 8) }
     ensures { b.new ≡ put_session (as_session x) b.old }
 {
     let vec = x.vec;

@@ -4,7 +4,7 @@
 
 #![tactic(auto)]
 
-ghost use Rattle.std.specs.Prelude.{◌≡◌, ◌-◌, ◌<◌};
+ghost use Rattle.std.specs.Prelude.{◌≡◌, ◌-◌, ◌<◌, ◌≤◌};
 ghost use Rattle.protocol.specs.Meaning.{setting_of};
 ghost use Rattle.protocol.specs.Change.{SetSession, SetClock, Publish, Receive};
 ghost use Rattle.record.specs.Meaning.{as_message};
@@ -46,7 +46,7 @@ pub fn setting(t: &[u8]) -> Setting
 }
 
 pub fn set_session(t: &mut [u8], session: SessionAt, x: Session)
-    requires { Long t.old }
+    requires { Long t.old × (x.marks.page.count ≤ 8) }
     ensures { t.new ≡ put_change (SetSession session.number (as_session x)) t.old }
 {
     let off = places::session_at(session.number as usize);

@@ -62,19 +62,13 @@ invariant_of-begin c =
     let k = ranged c.args.table.bytes.now c.args.event _ c.in-Begin.is c.requires in
     record { sixteen = ltb_yes k.1.0 }
 
-pub invariant_of-begin-in-Begin : goal.invariant_of-begin-in-Begin
-unfolding ranges
-invariant_of-begin-in-Begin c =
-    let k = ranged c.args.table.bytes.now c.args.event _ c.in-Begin.is c.requires in
-    record { few = leb_yes (and_yes (ltb 0 c.in-Begin.count) (leb c.in-Begin.count 8) (simp tab_length at k.1.1.0)).1 }
-
 pub begin-requires : goal.begin-requires
 unfolding ranges
 begin-requires c =
     let k = ranged c.args.table.bytes.now c.args.event _ c.in-Begin.is c.requires in
     let F = formed c.args.table.bytes.now c.args.table.formed in
     let p = ltb_yes k.0 in
-    omega arith
+    (omega arith, leb_yes (and_yes (ltb 0 c.in-Begin.count) (leb c.in-Begin.count 8) (simp tab_length at k.1.1.0)).1)
 
 pub invariant_of-read : goal.invariant_of-read
 unfolding ranges

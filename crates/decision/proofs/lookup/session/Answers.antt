@@ -6,7 +6,8 @@ use Rattle.codec.specs.Le.{load}
 use Rattle.parts.specs.Session.{session_in}
 use Rattle.lawful.proofs.Facts.{formed}
 use Rattle.decision.proofs.Formed.{session-marks}
-use Rattle.decision.proofs.Told.{here_told}
+use Rattle.table.specs.Parts.{session_of}
+use Rattle.decision.proofs.Told.{count_told, here_told}
 use borrow.Author.Rules.{rules}
 use Rattle.decision.proofs.lookup.session.Goals as goal
 
@@ -22,6 +23,7 @@ returns c =
     let told = c.load.ensures ∙ ap session_in c.session.ensures.0 in
     let there = here_told c.load.result t c.args.table.formed a.s.number c.args.s.sixteen told in (
       told,
+      subst (λ n. n ≤ 8) (sym (count_told c.load.result (session_of t a.s.number) told)) (session-marks t a.table.formed a.s.number a.s.sixteen),
       λ o. let here = there o in let F = formed t c.args.table.formed in omega (arith, F.sites),
       there,
     )

@@ -43,7 +43,7 @@ returns-in_err-hears c =
     ∙ sym (read-says a.table.bytes.now a.s.number (as_session x) known.says a.k ∙ rw (known.is_open, not-false _ c.if-not-x.false, sym c.awaited.ensures, c.if-not-awaited.false, sym hears, met.0))
 
 pub read_on-requires : goal.read_on-requires
-read_on-requires c = c.newest-found.ensures.1
+read_on-requires c = (c.in_ok-x.ensures.ok.few, c.newest-found.ensures.1)
 
 pub returns : goal.returns
 returns c =

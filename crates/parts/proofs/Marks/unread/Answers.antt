@@ -3,4 +3,4 @@ use Rattle.parts.proofs.Backward.{marks-begun}
 use Rattle.parts.proofs.Marks.unread.Goals as goal
 
 pub returns : goal.returns
-returns c = marks-begun c.args.page
+returns c = marks-begun c.args.page c.requires

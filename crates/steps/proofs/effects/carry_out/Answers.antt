@@ -4,7 +4,19 @@ use Rattle.table.specs.Put.{put_changes}
 use Rattle.table.specs.Fits.{FitsAll}
 use Rattle.outcome.specs.Decided.{changes_of}
 use Rattle.outcome.specs.declared.Effect.{Effect}
+use native.Mathlib.Omega.{arith}
+use Rattle.steps.proofs.Carried.{marks_few}
 use Rattle.steps.proofs.effects.carry_out.Goals as goal
+
+pub set_session-requires : goal.set_session-requires
+set_session-requires c =
+    let f = subst (λ (w : Effect). FitsAll (changes_of w) c.args.t.now) c.in-Keep.is c.requires.1 in
+    (c.requires.0, marks_few c.in-Keep.kept f.0.1)
+
+pub set_session-requires-in-Put : goal.set_session-requires-in-Put
+set_session-requires-in-Put c =
+    let f = (subst (λ (w : Effect). FitsAll (changes_of w) c.args.t.now) c.in-Put.is c.requires.1).1.0 in
+    (omega arith, marks_few c.in-Put.kept f.1)
 
 pub publish-requires : goal.publish-requires
 publish-requires c = (subst (λ (w : Effect). FitsAll (changes_of w) c.args.t.now) c.in-Beat.is c.requires.1).0
