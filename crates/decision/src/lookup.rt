@@ -10,7 +10,7 @@ ghost use Rattle.parts.specs.Node.{heard_in, store_in};
 ghost use Rattle.parts.specs.Session.{session_in};
 ghost use Rattle.parts.specs.Meaning.{as_session};
 ghost use Rattle.search.specs.Found.{found_of, Sited};
-ghost use Rattle.table.specs.Parts.{session_of, site_of, node_of};
+ghost use Rattle.table.specs.Parts.{Whole, session_of, site_of, node_of};
 ghost use Rattle.table.specs.Decode.{setting_in};
 ghost use Rattle.decision.specs.Opened.{Opened};
 
@@ -79,7 +79,7 @@ pub fn newest(table: Table, node: NodeAt, key: u8, snapshot: Vector) -> Option<R
 
 // The newest record there of the key: nothing is searched, its place is kept.
 pub fn at_hand(table: Table, node: NodeAt, key: u8) -> Option<Record>
-    requires { key < 64 }
+    requires { Whole table.bytes.now × (key < 64) }
     ensures { (found_of result ≡ found (setting_in table.entry.bytes.now) (of_key key) (store_in (node_of (site_of table.entry.bytes.now node.site) node.partition))) × Sited result }
 {
     let place = table::kept::place(table.bytes, node, key as usize);

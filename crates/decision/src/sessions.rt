@@ -2,6 +2,7 @@
 // and decides.
 ghost use Rattle.std.specs.Prelude.{◌≡◌, ◌<◌};
 ghost use Rattle.protocol.specs.Event.{OPEN, CLOSE, GET};
+ghost use Rattle.table.specs.Parts.{Whole};
 ghost use Rattle.table.specs.Decode.{decode};
 ghost use Rattle.outcome.specs.Decided.{decided_of};
 ghost use Rattle.decision.specs.Answered.{answered};
@@ -32,7 +33,7 @@ pub fn close_session(table: Table, s: SessionAt) -> Result<Decided, Reason>
 // R44, GET of key k: the node's entry for every other site is at least the session's, and then the newest record is shown. Where one is not it waits,
 // for the lowest such site (R51).
 pub fn get(table: Table, s: SessionAt, k: u8) -> Result<Decided, Reason>
-    requires { k < 64 }
+    requires { Whole table.bytes.now × (k < 64) }
     ensures { decided_of result ≡ answered (decode table.entry.bytes.now) (GET s.number k) }
 {
     let x = lookup::opened(table, s)?;

@@ -37,7 +37,7 @@ pub fn setting_lawful(setting: Setting) -> bool
 #[derive(Clone, Copy)]
 pub struct Table<'a> {
     pub bytes: &'a [u8],
-    ghost whole: { Whole bytes.now },
+    ghost long: { Long bytes.now },
     ghost formed: { T (well_formed bytes.now) },
 }
 

@@ -10,7 +10,8 @@ pub mod nodes;
 pub mod pages;
 pub mod sessions;
 
-// The keys of a page: the first `count` of eight are in use. What is asked of a session says nothing of its count, so no fact stands here.
+// The keys of a page: the first `count` of eight are in use. That they are at most eight is asked where it is needed and not here: `outcome::raising::raise`
+// takes a session whatever it counts.
 #[derive(Clone, Copy)]
 pub struct Keys {
     pub keys: [u8; 8],

@@ -28,7 +28,7 @@ pub mod runs;
 
 // What the protocol decides of an event whose fields are in range.
 pub fn decide(table: Table, event: Event) -> Result<Decided, Reason>
-    requires { met (ranges (setting_in table.bytes.now) (as_event event)) ≡ true }
+    requires { Whole table.bytes.now × (met (ranges (setting_in table.bytes.now) (as_event event)) ≡ true) }
     ensures { decided_of result ≡ answered (decode table.entry.bytes.now) (as_event event) }
 {
     match event {

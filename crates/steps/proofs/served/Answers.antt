@@ -44,7 +44,7 @@ decide-requires c =
     let v = c.in_ok-event.ensures.ok in
     let f = test_holds a.t.now e _ c.setting.ensures v.2 in
     let m = and_yes (unused_zero e) (met (ranges (setting_in a.t.now) (event_of e))) (is_yes _ f) in
-    rw v.0 (yes_is (met (ranges (setting_in a.t.now) (event_of e))) m.1)
+    (c.requires.0, rw v.0 (yes_is (met (ranges (setting_in a.t.now) (event_of e))) m.1))
 
 pub returns-in_err-decided : goal.returns-in_err-decided
 unfolding put_changes

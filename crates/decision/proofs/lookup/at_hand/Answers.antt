@@ -24,7 +24,7 @@ pub found_at-requires : goal.found_at-requires
 found_at-requires c =
     let a = c.args in
     let place_small : c.place-place.result ≤ held_in (node_of (site_of a.table.bytes.now a.node.site) a.node.partition) =
-    rw (c.place-place.ensures ∙ load_byte _ a.key ∙ ap (λ (b : List ℕ). get_or b a.key 0) (kept a.table.bytes.now c.args.table.whole c.args.table.formed a.node.site a.node.partition c.args.node.four_sites c.args.node.four_partitions) ∙ places_at (setting_in a.table.bytes.now) (node_of (site_of a.table.bytes.now a.node.site) a.node.partition) a.key c.requires) (place_held (setting_in a.table.bytes.now) (node_of (site_of a.table.bytes.now a.node.site) a.node.partition) a.key) in
+    rw (c.place-place.ensures ∙ load_byte _ a.key ∙ ap (λ (b : List ℕ). get_or b a.key 0) (kept a.table.bytes.now c.requires.0 c.args.table.formed a.node.site a.node.partition c.args.node.four_sites c.args.node.four_partitions) ∙ places_at (setting_in a.table.bytes.now) (node_of (site_of a.table.bytes.now a.node.site) a.node.partition) a.key c.requires.1) (place_held (setting_in a.table.bytes.now) (node_of (site_of a.table.bytes.now a.node.site) a.node.partition) a.key) in
     let t = a.table.bytes.now in
     let here = sym c.node.ensures.0 in
     let most = node_held t c.args.table.formed a.node.site a.node.partition c.args.node.four_sites c.args.node.four_partitions in (
@@ -51,8 +51,8 @@ returns c =
           ∙ ap (λ (b : List ℕ). placed (λ i. record_at b (slot_at i)) c.place-place.result) c.node.ensures.0
           ∙ ap (placed f) (c.place-place.ensures
           ∙ load_byte _ c.args.key
-          ∙ ap (λ (b : List ℕ). get_or b c.args.key 0) (kept c.args.table.bytes.now c.args.table.whole c.args.table.formed c.args.node.site c.args.node.partition c.args.node.four_sites c.args.node.four_partitions)
-          ∙ places_at (setting_in c.args.table.bytes.now) (node_of (site_of c.args.table.bytes.now c.args.node.site) c.args.node.partition) c.args.key c.requires)
+          ∙ ap (λ (b : List ℕ). get_or b c.args.key 0) (kept c.args.table.bytes.now c.requires.0 c.args.table.formed c.args.node.site c.args.node.partition c.args.node.four_sites c.args.node.four_partitions)
+          ∙ places_at (setting_in c.args.table.bytes.now) (node_of (site_of c.args.table.bytes.now c.args.node.site) c.args.node.partition) c.args.key c.requires.1)
           ∙ sym (found-newest (setting_in t) (of_key a.key) (store_in n) ∙ newest_is_placed (setting_in t) (of_key a.key) f (held_in n)),
       c.found_at.ensures.1,
     )

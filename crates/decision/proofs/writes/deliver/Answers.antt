@@ -27,7 +27,7 @@ invariant_of-sender c =
     record { four_sites = omega (arith, F.sites); four_partitions = c.args.node.four_partitions }
 
 pub channel-c-requires : goal.channel-c-requires
-channel-c-requires c = (omega (arith, c.args.table.whole), c.place_of-d.ensures.1)
+channel-c-requires c = (c.args.table.long, c.place_of-d.ensures.1)
 
 pub returns-then-waiting-eq0 : goal.returns-then-waiting-eq0
 returns-then-waiting-eq0 c =

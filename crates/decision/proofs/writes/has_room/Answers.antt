@@ -16,7 +16,7 @@ loop-d-init c = sym (all_below_none _)
 pub channel-requires : goal.channel-requires
 channel-requires c =
     let F = formed c.args.table.bytes.now c.args.table.formed in
-    (omega (arith, c.args.table.whole), omega (arith, c.load.ensures, F.sites))
+    (c.args.table.long, omega (arith, c.load.ensures, F.sites))
 
 pub loop-d-preserved : goal.loop-d-preserved
 loop-d-preserved c = rw (c.loop-d.invariant, c.waiting.ensures, c.channel.ensures.0) (sym (all_below-step c.loop-d.d _))
