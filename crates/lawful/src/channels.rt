@@ -17,8 +17,7 @@ fn messages_formed(b: &[u8], setting: Setting, i: u8, p: u8, front: u8, wait: u8
     ensures { result ≡ all_below wait (λ k. message_formed (setting_of setting) i p b.now (ring_at front k)) }
 {
     (0..wait).all(|k| {
-        let at = 16 + 56 * ((front as usize + k as usize) % 8);
-        formed::message_formed(b, at, setting, i, p)
+        formed::message_formed(b, parts::channels::place(front, k), setting, i, p)
     })
 }
 

@@ -1,5 +1,6 @@
 // R20 to R29: whether a table is well formed, computed over the whole table. It only reads, and of records and messages only those in use. In
-// order: the numbers of sites and partitions, the sessions, the sites with the kept places of their nodes, the table. What each thing must be stands in a file of its own.
+// order: the numbers of sites and partitions; a table that is well formed, lent for reading; the sessions; the sites with the kept places of their nodes;
+// the table. What each thing must be stands in a file of its own.
 
 #![tactic(auto)]
 

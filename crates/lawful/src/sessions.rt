@@ -56,10 +56,10 @@ pub fn session_formed(b: &[u8], setting: Setting) -> bool
     requires { length b.now ≡ 128 }
     ensures { result ≡ session_formed (setting_of setting) b.now }
 {
-    if 2 <= u8::load(b, 0) {
+    if FLAGS <= u8::load(b, 0) {
         return false;
     }
-    if 2 <= u8::load(b, 2) {
+    if FLAGS <= u8::load(b, 2) {
         return false;
     }
     if !site_lawful(b, setting) {

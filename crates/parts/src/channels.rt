@@ -9,7 +9,7 @@ use codec::Number;
 use record::{Letter, bytes};
 
 // Where the message k behind the front stands.
-fn place(front: u8, k: u8) -> usize
+pub fn place(front: u8, k: u8) -> usize
     ensures { (result ≡ ring_at front k) × (result + 48 ≤ 464) }
 {
     16 + 56 * ((front as usize + k as usize) % 8)

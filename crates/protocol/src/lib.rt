@@ -1,6 +1,6 @@
 // The rules of docs/RULES.md without bytes: the definitions are in specs/, what is proved of them in proofs/. The code here is the answer, the very
-// type that the definitions use, and the values that it stands for; `reasons` has what turns a call away, and `limits` the constants that setup fixes, and
-// limits. It touches nothing.
+// type that the definitions use, and the values that it stands for; `reasons` has what turns a call away, and `limits` what setup fixes, which session or
+// node is meant, and the limits that more than one crate asks for. It touches nothing.
 
 #![tactic(auto)]
 

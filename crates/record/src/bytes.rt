@@ -8,10 +8,10 @@ use crate::{Letter, Message, Numbers, Record};
 use codec::Number;
 use vector::Vector;
 
-// A stored record has kind 1.
-const UPDATE: u8 = 1;
+// A record's kind byte: an update, which every stored record is, or a heartbeat.
+pub(crate) const UPDATE: u8 = 1;
 
-const HEARTBEAT: u8 = 2;
+pub(crate) const HEARTBEAT: u8 = 2;
 
 pub fn load_record(b: &[u8], at: usize) -> Record
     requires { at + 48 ≤ length b.now }

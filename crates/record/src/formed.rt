@@ -7,6 +7,7 @@ ghost use Rattle.record.specs.RecordBytes.{record_at};
 ghost use Rattle.record.specs.Ranges.{record_in_range, record_lawful, message_lawful};
 ghost use Rattle.record.specs.RecordFormed.{record_formed, heartbeat_formed, message_formed};
 
+use crate::bytes::UPDATE;
 use crate::times;
 use codec::Number;
 use protocol::limits;
@@ -14,7 +15,7 @@ use protocol::limits::Setting;
 
 // Qualities are below this number (R7).
 const QUALITIES: u8 = 3;
-// Kinds are 1, an update, and this one, a heartbeat (R17).
+// The kinds are an update and, the last, a heartbeat (R17).
 const LAST_KIND: u8 = 2;
 
 // The fields of the record at `at`. Each is loaded where it is tested, so that a lawful one costs one comparison.
@@ -51,12 +52,12 @@ pub fn record_lawful(b: &[u8], at: usize, setting: Setting, p: u8) -> bool
     record_in_range(b, at, setting)
 }
 
-// A stored record has kind 1.
+// A stored record is an update.
 pub fn record_formed(n: &[u8], at: usize, setting: Setting, p: u8) -> bool
     requires { at + 48 ≤ length n.now }
     ensures { result ≡ record_formed (setting_of setting) p n.now at }
 {
-    if u8::load(n, at + 3) != 1 {
+    if u8::load(n, at + 3) != UPDATE {
         return false;
     }
     record_lawful(n, at, setting, p)
@@ -89,13 +90,13 @@ fn heartbeat_formed(b: &[u8], at: usize, i: u8) -> bool
                 & ((level <= key as u32) & times::none_above(b, at + 16, key as u64))))
 }
 
-// A message of the channel from site i at partition p: kind 1 is an update, 2 a heartbeat.
+// A message of the channel from site i at partition p: an update or a heartbeat, by its kind.
 pub fn message_formed(b: &[u8], at: usize, setting: Setting, i: u8, p: u8) -> bool
     requires { at + 48 ≤ length b.now }
     ensures { result ≡ message_formed (setting_of setting) i p b.now at }
 {
     let kind = u8::load(b, at + 3);
-    if kind == 1 {
+    if kind == UPDATE {
         return update_formed(b, at, setting, i, p);
     }
     if kind != LAST_KIND {

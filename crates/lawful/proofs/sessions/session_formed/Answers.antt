@@ -7,13 +7,13 @@ use Rattle.lawful.specs.LawfulValues.{session_lawful}
 use Rattle.lawful.specs.WellFormed.{session_formed}
 use Rattle.lawful.proofs.sessions.session_formed.Goals as goal
 
-pub returns-then-load-ge2 : goal.returns-then-load-ge2
+pub returns-then-load-ge-FLAGS : goal.returns-then-load-ge-FLAGS
 unfolding session_formed
-returns-then-load-ge2 c = sym (every_fails _ 0 (le-ltb _ 2 (rw c.load.ensures at c.if-load-ge2.true)))
+returns-then-load-ge-FLAGS c = sym (every_fails _ 0 (le-ltb _ 2 (rw c.load.ensures at c.if-load-ge-FLAGS.true)))
 
-pub returns-then-load-ge2-2 : goal.returns-then-load-ge2-2
+pub returns-then-load-ge-FLAGS-2 : goal.returns-then-load-ge-FLAGS-2
 unfolding session_formed
-returns-then-load-ge2-2 c = sym (every_fails _ 1 (le-ltb _ 2 (rw c.load-2.ensures at c.if-load-ge2-2.true)))
+returns-then-load-ge-FLAGS-2 c = sym (every_fails _ 1 (le-ltb _ 2 (rw c.load-2.ensures at c.if-load-ge-FLAGS-2.true)))
 
 pub returns-then-not-site_lawful : goal.returns-then-not-site_lawful
 unfolding session_formed session_lawful session_in
@@ -36,8 +36,8 @@ returns-then-not-vector_formed c =
 pub returns : goal.returns
 unfolding session_formed session_lawful session_in
 returns c =
-    let yes_open = lt-ltb _ 2 (rw c.load.ensures at c.if-load-ge2.false) in
-    let yes_paged = lt-ltb _ 2 (rw c.load-2.ensures at c.if-load-ge2-2.false) in
+    let yes_open = lt-ltb _ 2 (rw c.load.ensures at c.if-load-ge-FLAGS.false) in
+    let yes_paged = lt-ltb _ 2 (rw c.load-2.ensures at c.if-load-ge-FLAGS-2.false) in
     let yes_site = passes c.site_lawful.ensures c.if-not-site_lawful.false in
     let yes_marks = passes c.flags_formed.ensures c.if-not-flags_formed.false in
     let yes_vec = passes c.vector_formed.ensures c.if-not-vector_formed.false in

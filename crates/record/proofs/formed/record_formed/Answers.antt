@@ -4,11 +4,11 @@ use borrow.Author.Tests.{eq-eqb, ne_eqb}
 use Rattle.record.specs.RecordFormed.{record_formed}
 use Rattle.record.proofs.formed.record_formed.Goals as goal
 
-pub returns-then-load-ne1 : goal.returns-then-load-ne1
+pub returns-then-load-ne-UPDATE : goal.returns-then-load-ne-UPDATE
 unfolding record_formed
-returns-then-load-ne1 c = rw (ne_eqb _ 1 (λ e. c.if-load-ne1.true (c.load.ensures ∙ e)))
+returns-then-load-ne-UPDATE c = rw (ne_eqb _ 1 (λ e. c.if-load-ne-UPDATE.true (c.load.ensures ∙ e)))
 
 pub returns : goal.returns
 unfolding record_formed
 returns c =
-    rw (eq-eqb _ 1 (sym c.load.ensures ∙ c.if-load-ne1.false)) c.record_lawful.ensures
+    rw (eq-eqb _ 1 (sym c.load.ensures ∙ c.if-load-ne-UPDATE.false)) c.record_lawful.ensures
