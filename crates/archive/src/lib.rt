@@ -9,6 +9,7 @@ ghost use Rattle.steps.specs.Run.{ran};
 ghost use Rattle.archive.specs.Call.{setup_call, step_call};
 ghost use Rattle.archive.specs.Run.{pieces_of, run_call};
 
+use codec::Number;
 use protocol::{Answer, Reason};
 use steps::runs;
 
@@ -28,8 +29,8 @@ pub fn setup(table: &mut [u8], sites: u32, partitions: u32) -> Answer
         return Answer::from(Reason::UnlawfulField);
     }
     table.fill(0);
-    codec::store_le(table, 0, 1, sites as u64);
-    codec::store_le(table, 1, 1, partitions as u64);
+    (sites as u8).store(table, 0);
+    (partitions as u8).store(table, 1);
     Answer::Done
 }
 

@@ -25,4 +25,4 @@ returns-then-not-number_lawful c =
 pub returns : goal.returns
 returns c =
     let yes = passes (numbers_lawful _ _ c.number_lawful.ensures c.number_lawful-2.ensures) c.if-not-number_lawful.false in
-    rw (c.store_le-2.ensures, c.store_le.ensures, c.fill.ensures.after (λ y h. h)) (sym (setup_done _ _ _ (search rules) yes))
+    rw (c.store-2.ensures, c.store.ensures, c.fill.ensures.after (λ y h. h)) (sym (setup_done _ _ _ (search rules) yes))
