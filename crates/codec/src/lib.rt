@@ -99,6 +99,7 @@ pub fn load_eight(t: &[u8], at: usize) -> [u8; 8]
     array::from_fn(|i| u8::load(t, at + i))
 }
 
+// A level is in two's complement, which is another law than `Number`'s.
 pub fn load_level(t: &[u8], at: usize) -> i32
     requires { at + 4 ≤ length t.now }
     ensures { result ≡ level_from (load 4 t.now at) }

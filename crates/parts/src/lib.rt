@@ -25,7 +25,7 @@ pub struct Marks {
     pub read: [bool; 8],
 }
 
-// A session and its page: `snapshot` is the page's vector.
+// A session and its page: `snapshot` is the page's vector. `open` and `paged` are flags, since the bytes of a session and of a page that are not open count too.
 #[derive(Clone, Copy)]
 pub struct Session {
     pub open: bool,

@@ -12,7 +12,7 @@ pub mod reasons;
 
 pub use reasons::Reason;
 
-// A refusal, or the wait 3, with the source and the stamp that it names.
+// A refusal, or the wait 3, with the source and the stamp that it names. By its number: the theorems speak of this type; why it is, `Reason` says.
 #[derive(Clone, Copy)]
 pub struct Refusal {
     pub number: u8,

@@ -34,6 +34,7 @@ pub enum Message {
     Heartbeat { stamp: u64 },
 }
 
+// A message with its vector, which is zero beside a heartbeat: both are stored at the same 32 bytes.
 #[derive(Clone, Copy)]
 pub struct Letter {
     pub message: Message,

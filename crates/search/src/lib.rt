@@ -89,7 +89,7 @@ fn newest_place(n: &[u8], held: usize, w: Wanted) -> usize
     best
 }
 
-// What stands at a place.
+// What stands at a place, which is nothing at 0: the byte that the table keeps.
 pub fn found_at(n: &[u8], place: usize) -> Option<Record>
     requires { (length n.now ≡ 1856) × (place ≤ 32) × (0 < place → (record_at n.now (slot_at (place - 1))).id.source < 4) }
     ensures { (found_of result ≡ placed (λ i. record_at n.now (slot_at i)) place) × Sited result }

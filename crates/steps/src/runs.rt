@@ -1,4 +1,5 @@
-// Many events on a table known to be well formed: it stays so, so it is not checked again. The reader gives each event in turn. In order: one piece, and
+// Many events on a table known to be well formed: it stays so, so it is not checked again. A clause says so and no type: a struct with a `&mut` would have
+// to say in each function that it keeps its reference. The reader gives each event in turn. In order: one piece, and
 // all; the same of a table that is refused.
 ghost use Rattle.std.specs.Prelude.{◌≡◌, ℕ, ◌+◌, ◌*◌, ◌≤◌, List, T, length};
 ghost use Rattle.table.specs.Parts.{Whole};

@@ -1,5 +1,5 @@
 // A site's part of the table, 13,056 bytes: 4 nodes, and for each partition 3 outgoing channels. Each function lends the node or the channel that it
-// is about. In order: a node, a channel, and a message that goes to every other site.
+// is about, itself: of what a function gives back as `&mut` no proof was found. In order: a node, a channel, and a message that goes to every other site.
 ghost use Rattle.std.specs.Prelude.{◌≡◌, ◌≤◌, ◌<◌, length};
 ghost use Rattle.record.specs.Meaning.{as_message};
 ghost use Rattle.parts.specs.Node.{clock_set, published, received};
