@@ -1,14 +1,15 @@
--- The laws of a lent part. In order: its length, what a byte of the part is in the whole, what comes back to a caller that lent it,
+-- The laws of a lent part. In order: its length, what a put or a load in the part is in the whole, what comes back to a caller that lent it,
 -- and what a part shows after something was done to it or to another.
-use Prim.Native.Nat.{ℕ, ◌+◌, ◌-◌, ◌≤◌, ◌<◌}
+use Prim.Native.Nat.{ℕ, zero, suc, ◌+◌, ◌-◌, ◌%◌, ◌/◌, ◌≤◌, ◌<◌}
+use native.Mathlib.Nat.{add-suc}
 use native.Mathlib.Decide.{dec_lt}
 use native.Mathlib.Omega.{arith}
 use mathlib.Core.Path.{◌≡◌, sym, ap, ◌∙◌}
 use mathlib.Core.List.{List, ◌++◌}
-use lib.ListN.{length, get_or, take, drop, length-drop}
-use lib.Seq.{length-take-le, take_at, drop_at, get_or-take, get_or-drop, ext_get_or}
-use borrow.Rule.Slice.PartMut.{post_of, put_mid, same_len_mid, take_put}
-use Rattle.codec.specs.Le.{Apart}
+use lib.ListN.{length, get_or, set, take, drop, length-drop}
+use lib.Seq.{length-take-le, take_at, drop_at, take-set-le, take-set-lt, drop-set-lt, drop-set-add, get_or-take, get_or-drop, ext_get_or}
+use borrow.Rule.Slice.PartMut.{post_of, put_mid, same_len_mid, put_same, take_put}
+use Rattle.codec.specs.Le.{put, Apart}
 use Rattle.codec.specs.Part.{part_of, on_part, Keeps}
 
 pub length_part : (off k : ℕ) (t : List ℕ) → off + k ≤ length t → length (part_of off k t) ≡ k
@@ -16,6 +17,23 @@ length_part off k t h = length-take-le k (drop off t) (omega (arith, length-drop
 
 pub get_d_part : (off k : ℕ) (t : List ℕ) (i : ℕ) → i < k → get_or (part_of off k t) i 0 ≡ get_or t (off + i) 0
 get_d_part off k t i h = get_or-take k (drop off t) i 0 h ∙ get_or-drop off t i 0
+
+-- ---- a put or a load in the part is one in the whole
+
+module _ (off k : ℕ) (t : List ℕ) (j v : ℕ) (h : j < k) where
+  part_set : set (part_of off k t) j v ≡ part_of off k (set t (off + j) v)
+  part_set = rw (drop-set-add off t j v, take-set-lt k (drop off t) j v h)
+
+  around_set : (ys : List ℕ) → put_mid off k t ys ≡ put_mid off k (set t (off + j) v) ys
+  around_set ys = rw (take-set-le off t (off + j) v (omega arith), drop-set-add off t j v, drop-set-lt k (drop off t) j v h)
+
+pub on_part-put : (off k : ℕ) (t : List ℕ) (n j x : ℕ) → j + n ≤ k → on_part off k (λ s. put n s j x) t ≡ put n t (off + j) x
+unfolding put
+on_part-put off k t zero j x b = put_same off k t
+on_part-put off k t (suc n) j x b =
+    let u = set t (off + j) (x % 256) in
+    rw (part_set off k t j (x % 256) (omega arith), ← add-suc)
+    (around_set off k t j (x % 256) (omega arith) (put n (part_of off k u) (suc j) (x / 256)) ∙ on_part-put off k u n (suc j) (x / 256) (omega arith))
 
 -- ---- what a caller that lent `&mut t[off..off + k]` has when the part is back, where the callee did f to it
 

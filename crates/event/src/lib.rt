@@ -1,5 +1,5 @@
-// R30: what an event's 32 bytes say, and refusals 10 and 11. In order: the bytes, the fields as values, the event that they say by their code, all the fields'
-// tests, and an event that is read and tested. Which code uses which field is in flags, the range of each field in bounds. It reads the event alone.
+// R30: what an event's 32 bytes say, and refusals 10 and 11. In order: the bytes, the fields as values, the code's test, the event that they say by their code, all
+// the fields' tests, and an event that is read and tested. Which code uses which field is in flags, the range of each field in bounds. It reads the event alone.
 
 #![tactic(auto)]
 
@@ -58,6 +58,14 @@ pub fn load_fields(e: &EventBytes) -> Fields
     }
 }
 
+// A code that is not 1 to 10 is refused with 10.
+pub fn code_lawful(e: &EventBytes) -> bool
+    ensures { result ≡ code_lawful e.now }
+{
+    let code = u8::load(e, 0);
+    (0 < code) & (code < 11)
+}
+
 // R31: what an event asks. A page has the first `count` of its eight keys.
 #[derive(Clone, Copy)]
 pub enum Event {
@@ -107,7 +115,7 @@ pub enum Event {
     },
 }
 
-// A code that is not 1 to 10 is refused with 10.
+// Fields whose code is not 1 to 10 say none.
 impl TryFrom<Fields> for Event {
     type Error = Reason;
 

@@ -54,6 +54,10 @@ distinct_snoc [] k = refl
 distinct_snoc (j ∷ ks) k =
     rw (has_snoc j ks k, distinct_snoc ks k, eqb_sym k j) (either_end (has ks j) (eqb j k) (has ks k) (distinct ks))
 
+neither : (a b : Bool) → not (a || b) ≡ (not a && not b)
+neither true b = refl
+neither false b = refl
+
 -- ---- a function's first values
 
 module _ (f : ℕ → ℕ) where
@@ -67,6 +71,11 @@ module _ (f : ℕ → ℕ) where
   counted g t none more zero = ap g (tab_none f) ∙ none
   counted g t none more (suc n) =
       ap (λ (k : ℕ). g (tabulate k f)) (sym (add-one n)) ∙ ap g (tabulate_more n) ∙ more n ∙ ap (λ (b : Bool). b && t n) (counted g t none more n)
+
+  pub has_none : (k n : ℕ) → not (has (tabulate n f) k) ≡ all_below n (λ i. not (eqb (f i) k))
+  has_none k n =
+      counted (λ ks. not (has ks k)) (λ i. not (eqb (f i) k)) refl
+      (λ m. ap not (has_snoc k (tabulate m f) (f m)) ∙ neither (has (tabulate m f) k) (eqb (f m) k)) n
 
   -- each key is in range, and none of those before it
   pub keys_all : (n : ℕ) → (keys_lawful (tabulate n f) && distinct (tabulate n f)) ≡ all_below n (λ i. ltb (f i) 64 && not (has (tabulate i f) (f i)))

@@ -23,7 +23,9 @@ fn channels_formed(site: &[u8], setting: Setting, m: u8, p: u8) -> bool
     ))
 }
 
-// Site m, and the kept places of its nodes. A loop: with `all`, whose closure joins two tests, the proof did not close.
+// Site m, and the kept places of its nodes. A loop: with `all`, whose closure joins two tests, the proof did not close. Not inlined: beside the sessions, the walk
+// over a node's records has too few registers, and the check of a full table takes a tenth more instructions.
+#[inline(never)]
 pub fn site_formed(t: &[u8], setting: Setting, m: u8) -> bool
     requires { Whole t.now × (m < 4) }
     ensures { result ≡ (site_formed (setting_of setting) m (site_of t.now m) && all_below 4 (λ p. kept_formed (setting_of setting) (node_of (site_of t.now m) p) (kept_of t.now m p))) }

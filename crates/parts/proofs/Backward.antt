@@ -1,4 +1,4 @@
--- Lists of a function's values as a loop goes over them from the last to the first: those that it has passed, none, one more in front. Then what is done to each
+-- Lists of a function's values as a loop goes over them from the last to the first: those that it has passed, none, one more in front, all. Then what is done to each
 -- mark of such a list.
 use Prim.Native.Nat.{ℕ, zero, suc, ◌+◌, ◌-◌, ◌≤◌, ◌<◌}
 use native.Mathlib.Nat.{add-zero}
@@ -33,6 +33,11 @@ module _ {A : Type 0} (f : ℕ → A) (n : ℕ) where
       let e : suc i - 1 ≡ i = omega arith in
       let d : n - i ≡ suc (n - suc i) = omega arith in
       rw (e, d, add-zero i) (ap (λ r. f i ∷ r) (tab_ext (n - suc i) (λ k. f (i + suc k)) (λ k. f (suc i + k)) (λ k b. ap f (omega arith))))
+
+  pub from_all : from_to 0 n f ≡ tabulate n f
+  from_all =
+      let e : n - 0 ≡ n = omega arith in
+      rw e (tab_ext n (λ k. f (0 + k)) f (λ k b. ap f (omega arith)))
 
 -- ---- marks
 

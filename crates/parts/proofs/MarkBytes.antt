@@ -14,9 +14,9 @@ use Rattle.codec.specs.Tabulate.{tabulate}
 use Rattle.codec.proofs.Tabulate.{tab_ext}
 use Rattle.protocol.specs.State.{Mark}
 use Rattle.parts.specs.declared.Marks.{Marks}
-use Rattle.parts.specs.Pages.{marks_on}
+use Rattle.parts.specs.Pages.{mark_of, marks_on}
 use Rattle.parts.specs.Session.{flag, mark_at, put_marks}
-use Rattle.parts.proofs.Backward.{from_to}
+use Rattle.parts.proofs.Backward.{from_to, from_all}
 
 -- a flag is the byte that a `bool` converts to
 pub flag_is : (b : Bool) → bool_byte b ≡ flag b
@@ -24,6 +24,9 @@ flag_is true = refl
 flag_is false = refl
 
 -- ---- the marks from place i on
+
+pub marks_all : (b : List ℕ) (n : ℕ) (f : ℕ → Mark) → put_marks b 0 (from_to 0 n f) ≡ put_marks b 0 (tabulate n f)
+marks_all b n f = ap (put_marks b 0) (from_all f n)
 
 pub marks_none : (b : List ℕ) (i n : ℕ) (f : ℕ → Mark) → n ≤ i → put_marks b i (from_to i n f) ≡ b
 unfolding tabulate put_marks
@@ -40,7 +43,11 @@ marks-step b i n f h =
 
 -- ---- the marks that are loaded
 
-pub marks_loaded : (b : List ℕ) (x : Marks) → x.page.count ≤ 8 → ((i : ℕ) → i < 8 → get_or x.page.keys i 0 ≡ load 1 b (8 + i)) → ((i : ℕ) → i < 8 → get_or x.read i false ≡ eqb (load 1 b (16 + i)) 1) → x.page.count ≡ load 1 b 3 → marks_on x ≡ tabulate (load 1 b 3) (mark_at b)
-unfolding mark_at
-marks_loaded b x few ks ms e =
-    rw (← e) (tab_ext x.page.count _ _ (λ i l. rw (ks i (omega arith), ms i (omega arith))))
+module _ (b : List ℕ) (x : Marks) (ks : (i : ℕ) → i < 8 → get_or x.page.keys i 0 ≡ load 1 b (8 + i)) (ms : (i : ℕ) → i < 8 → get_or x.read i false ≡ eqb (load 1 b (16 + i)) 1) where
+  pub marks_loaded : (n : ℕ) → n ≤ 8 → tabulate n (mark_of x) ≡ tabulate n (mark_at b)
+  unfolding mark_at
+  marks_loaded n few = tab_ext n _ _ (λ i l. rw (ks i (omega arith), ms i (omega arith)))
+
+  -- as many as the byte of the count says
+  pub marks_on_loaded : x.page.count ≤ 8 → x.page.count ≡ load 1 b 3 → marks_on x ≡ tabulate (load 1 b 3) (mark_at b)
+  marks_on_loaded few e = rw (← e) (marks_loaded x.page.count few)

@@ -18,3 +18,7 @@ mark_of x i = record { key = get_or x.page.keys i 0; read = get_or x.read i fals
 
 abbrev pub marks_on : Marks → List Mark
 marks_on x = tabulate x.page.count (mark_of x)
+
+-- the same marks, of other keys
+abbrev pub with_keys : List ℕ → Marks → Marks
+with_keys keys x = record { page = record { keys = keys; count = x.page.count }; read = x.read }

@@ -1,10 +1,10 @@
 // The keys of a page and their marks, of which the first `count` places are in use. In order: tests of the keys that a page begins with; then the marks of a page
 // that begins, tests of marks, and a key that is read. Each test goes from the last place to the first, as its definition has it.
-ghost use Rattle.std.specs.Prelude.{◌≡◌, ◌≤◌};
+ghost use Rattle.std.specs.Prelude.{◌≡◌, ◌≤◌, List, ℕ};
 ghost use Rattle.codec.specs.Lists.{has};
 ghost use Rattle.protocol.specs.Needs.{distinct, awaited, all_read};
 ghost use Rattle.protocol.specs.Serve.{unread, mark_read};
-ghost use Rattle.parts.specs.Pages.{keys_on, keys_from, marks_on};
+ghost use Rattle.parts.specs.Pages.{keys_on, keys_from, marks_on, with_keys};
 
 use crate::{Keys, Marks};
 
@@ -61,10 +61,10 @@ impl Marks {
         any
     }
 
-    // Whether every key of the page is read.
+    // Whether every key of the page is read, whichever they are.
     pub fn all_read(self) -> bool
         requires { self.page.count ≤ 8 }
-        ensures { result ≡ all_read (marks_on self) }
+        ensures { (keys : List ℕ) → result ≡ all_read (marks_on (with_keys keys self)) }
     {
         let count = self.page.count as usize;
         let mut all = true;

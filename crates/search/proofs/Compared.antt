@@ -14,7 +14,7 @@ use Rattle.record.specs.RecordBytes.{record_at}
 use Rattle.parts.specs.Node.{slot_at}
 
 -- t is what a test says of the record in slot k and the one that stands 56 b from byte 8: where b is a place, that is the record there
-is_later : (c : Setting) (n : List ℕ) (k b : ℕ) (t : Bool) → t ≡ newer c (record_at n (slot_at k)).id (record_at n (8 + 56 * b)).id
+pub is_later : (c : Setting) (n : List ℕ) (k b : ℕ) (t : Bool) → t ≡ newer c (record_at n (slot_at k)).id (record_at n (8 + 56 * b)).id
     → (eqb b 0 || t) ≡ (eqb b 0 || newer c (record_at n (slot_at k)).id (record_at n (slot_at (b - 1))).id)
 is_later c n k b t e = elim (ℕ_discrete b 0) [
   | yes z ↦ rw (eq-eqb b 0 z)

@@ -73,22 +73,26 @@ pub fn decide(table: Table, event: Event) -> Result<Decided, Reason>
 }
 
 // What an event is answered, or why it is turned away: then nothing is changed.
-fn served(t: &mut [u8], e: &[u8]) -> Result<Answer, Reason>
-    requires { Whole t.old × T (well_formed t.old) × (length e.now ≡ 32) }
+fn served(t: &mut [u8], e: &EventBytes) -> Result<Answer, Reason>
+    requires { Whole t.old × T (well_formed t.old) }
     ensures { gives (told result) t.new ≡ step_on t.old e.now }
 {
-    let bytes = <&EventBytes>::try_from(e).unwrap();
-    let event = event::read(bytes, table::setting(t))?;
+    let event = event::read(e, table::setting(t))?;
     let decided = decide(Table { bytes: t }, event)?;
     effects::carry_out(t, decided.effect);
     Ok(decided.answer)
 }
 
+// A code that is not 1 to 10 is refused before any other field is loaded.
 pub fn step(t: &mut [u8], e: &[u8]) -> Answer
     requires { Whole t.old × T (well_formed t.old) × (length e.now ≡ 32) }
     ensures { gives result t.new ≡ step_on t.old e.now }
 {
-    match served(t, e) {
+    let bytes = <&EventBytes>::try_from(e).unwrap();
+    if !event::code_lawful(bytes) {
+        return Answer::from(Reason::UnknownCode);
+    }
+    match served(t, bytes) {
         Ok(answer) => answer,
         Err(reason) => Answer::from(reason),
     }

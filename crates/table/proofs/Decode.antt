@@ -354,6 +354,11 @@ length-put_changes [] t l fit = refl
 length-put_changes (c ∷ cs) t l fit =
     let e = length-put_change c t l fit.0 in length-put_changes cs (put_change c t) (long_still t (put_change c t) e l) fit.1 ∙ e
 
+pub setting_puts : (cs : List Change) (t : List ℕ) → Long t → FitsAll cs t → setting_in (put_changes cs t) ≡ setting_in t
+unfolding put_changes
+setting_puts [] t l fit = refl
+setting_puts (c ∷ cs) t l fit = setting_puts cs (put_change c t) (long_still t (put_change c t) (length-put_change c t l fit.0) l) fit.1 ∙ setting-put c t l fit.0
+
 pub decode_puts : (cs : List Change) (t : List ℕ) → Long t → FitsAll cs t → decode (put_changes cs t) ≡ apply_all cs (decode t)
 unfolding put_changes apply_all
 decode_puts [] t l fit = refl

@@ -1,12 +1,12 @@
 -- `event::read` meets its contract: the code says which event it is, or is none, and then the fields are tested.
 use Prim.Native.Nat.{ℕ}
-use mathlib.Core.Path.{◌≡◌, sym, ap, ◌∙◌}
+use mathlib.Core.Path.{◌≡◌, refl, sym, ◌∙◌}
 use mathlib.Core.List.{List}
 use Rattle.std.proofs.lemmas.Result.{err_from_is_err_and}
 use Rattle.event.specs.declared.Fields.{Fields}
 use Rattle.event.specs.Event.{code_lawful}
 use Rattle.event.specs.Meaning.{event_from, known, fields_in, IsRefusal}
-use Rattle.event.proofs.Meaning.{event_from-fields_in}
+use Rattle.event.proofs.Meaning.{event_is}
 use Rattle.event.proofs.read.Goals as goal
 
 code_known : (e : List ℕ) (x : Fields) → x ≡ fields_in e → code_lawful e ≡ known x
@@ -27,7 +27,8 @@ returns-then-not-fields_lawful-clause-err c =
     IsRefusal.unlawful (code_known c.args.e.now _ c.load_fields.ensures ∙ c.in_ok-event.ensures.0) (sym c.fields_lawful.ensures ∙ c.if-not-fields_lawful.true)
 
 pub returns-clause-ok : goal.returns-clause-ok
+unfolding event_from
 returns-clause-ok c =
     let code = code_known c.args.e.now _ c.load_fields.ensures ∙ c.in_ok-event.ensures.0 in
     let fields = sym c.fields_lawful.ensures ∙ c.if-not-fields_lawful.false in
-    (c.in_ok-event.ensures.1 ∙ ap event_from c.load_fields.ensures ∙ event_from-fields_in _ c.args.e.now (code, fields), code, fields)
+    (c.in_ok-event.ensures.1 ∙ sym (event_is _ c.args.e.now _ c.load_fields.ensures (code, fields) _ refl), code, fields)

@@ -1,16 +1,10 @@
--- `steps::served` meets its contract: the array is the event's bytes, refused with 10 or 11, turned away by the decision, or what is decided is carried out.
+-- `steps::served` meets its contract: the event is refused with 10 or 11, turned away by the decision, or what is decided is carried out.
 use borrow.Author.Rules.{rules}
-use denote.Bor.{Bor}
-use Prim.Native.Nat.{ℕ}
-use mathlib.Core.List.{List}
-use mathlib.Core.Logic.{◌≢◌}
 use mathlib.Core.Path.{◌≡◌, refl, sym, ap, subst, ◌∙◌}
 use mathlib.Core.Bool.{◌&&◌}
 use lib.ListN.{length}
 use mir.Facts.{and_yes}
-use Rattle.std.specs.Array.{IsWholeChunk}
-use Rattle.std.specs.Prelude.{Result, Ok, MatchResult}
-use Rattle.std.proofs.lemmas.Result.{MatchResult-at_ok, err_from_is_err_and}
+use Rattle.std.proofs.lemmas.Result.{err_from_is_err_and}
 use Rattle.protocol.specs.Needs.{ranges}
 use Rattle.event.specs.Event.{code_lawful, event_of, met}
 use Rattle.event.specs.Fields.{unused_zero}
@@ -24,23 +18,18 @@ use Rattle.steps.specs.Step.{gives}
 use Rattle.steps.proofs.Stepped.{is_yes, yes_is, test_holds, refused_gives, decided_fits, decided_gives}
 use Rattle.steps.proofs.served.Goals as goal
 
--- the array that is read is the event's bytes
-array_same : {D : Type 0} {r : Result (Bor (List ℕ)) D} {e : List ℕ} {bytes : Bor (List ℕ)} → r ≡ Ok bytes →
-    MatchResult r (λ y. IsWholeChunk e y.now 32) (λ _. length e ≢ 32) → bytes.now ≡ e
-array_same known tried = (MatchResult-at_ok (λ y. IsWholeChunk _ y.now 32) _ _ known tried).same
-
 pub returns-in_err-event : goal.returns-in_err-event
 returns-in_err-event c =
     let a = c.args in
     let p = err_from_is_err_and c.from_residual.result c.from_residual.ensures.1 in
     let w = c.in_err-event.field-0.0 in
-    let met_here = subst (λ d. IsRefusal (code_lawful a.e.now) (unused_zero a.e.now && met (ranges d (event_of a.e.now))) w) c.setting.ensures (rw (array_same c.unwrap-bytes.ensures c.try_from.ensures.1) at c.in_err-event.ensures.err) in
+    let met_here = subst (λ d. IsRefusal (code_lawful a.e.now) (unused_zero a.e.now && met (ranges d (event_of a.e.now))) w) c.setting.ensures (c.in_err-event.ensures.err) in
     rw (p.1, p.2) (sym (refused_gives a.t.now a.e.now w met_here))
 
 pub decide-requires : goal.decide-requires
 decide-requires c =
     let a = c.args in
-    let e = c.unwrap-bytes.result.now in
+    let e = a.e.now in
     let v = c.in_ok-event.ensures.ok in
     let f = test_holds a.t.now e _ c.setting.ensures v.2 in
     let m = and_yes (unused_zero e) (met (ranges (setting_in a.t.now) (event_of e))) (is_yes _ f) in
@@ -50,7 +39,7 @@ pub returns-in_err-decided : goal.returns-in_err-decided
 unfolding put_changes
 returns-in_err-decided c =
     let a = c.args in
-    let v = rw (array_same c.unwrap-bytes.ensures c.try_from.ensures.1) at c.in_ok-event.ensures.ok in
+    let v = c.in_ok-event.ensures.ok in
     let p = err_from_is_err_and c.from_residual-in_err-decided.result c.from_residual-in_err-decided.ensures.1 in
     let w = c.in_err-decided.field-0.0 in
     let f = test_holds a.t.now a.e.now _ c.setting.ensures v.2 in
@@ -60,7 +49,7 @@ returns-in_err-decided c =
 pub carry_out-requires : goal.carry_out-requires
 carry_out-requires c =
     let a = c.args in
-    let e = c.unwrap-bytes.result.now in
+    let e = a.e.now in
     let v = c.in_ok-event.ensures.ok in
     let f = test_holds a.t.now e _ c.setting.ensures v.2 in
     let says = c.in_ok-decided.ensures ∙ ap (answered (decode a.t.now)) v.0 in
@@ -70,7 +59,7 @@ carry_out-requires c =
 pub returns : goal.returns
 returns c =
     let a = c.args in
-    let v = rw (array_same c.unwrap-bytes.ensures c.try_from.ensures.1) at c.in_ok-event.ensures.ok in
+    let v = c.in_ok-event.ensures.ok in
     let f = test_holds a.t.now a.e.now _ c.setting.ensures v.2 in
     let d = c.in_ok-decided.decided in
     let says = c.in_ok-decided.ensures ∙ ap (answered (decode a.t.now)) v.0 in

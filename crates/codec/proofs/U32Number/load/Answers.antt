@@ -9,3 +9,9 @@ unfolding span
 overflow_cast-result c =
     let a = c.args in
     omega (arith, load_lt 4 a.t.now a.at c.type_inv.t)
+
+pub returns : goal.returns
+unfolding span
+returns c =
+    let a = c.args in
+    omega (arith, load_lt 4 a.t.now a.at c.type_inv.t, c.load_le.ensures)

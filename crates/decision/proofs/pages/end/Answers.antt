@@ -28,7 +28,7 @@ pub returns-then-not-all_read : goal.returns-then-not-all_read
 returns-then-not-all_read c =
     let a = c.args in
     let x = c.in_ok-x.ensures.ok in
-    sym (end_says a.table.bytes.now a.s.number (as_session c.in_ok-x.x) x.says ∙ rw (x.is_open, c.if-not-x.false, sym c.all_read.ensures, c.if-not-all_read.true))
+    sym (end_says a.table.bytes.now a.s.number (as_session c.in_ok-x.x) x.says ∙ rw (x.is_open, c.if-not-x.false, sym (c.all_read.ensures c.in_ok-x.x.marks.page.keys), c.if-not-all_read.true))
 
 pub raise-requires : goal.raise-requires
 raise-requires c = c.in_ok-x.ensures.ok.site
@@ -41,4 +41,4 @@ returns c =
     let raised : as_session c.ended.result ≡ with_page (with_vec (as_session x) (larger (as_vec x.vec) (as_vec x.gathered))) no_page =
     c.ended.ensures ∙ ap (λ (y : Session). with_page y no_page) c.raise.ensures ∙ rw (raised-plain (as_vec x.vec) (as_vec x.gathered) x.site) in
     c.kept.ensures
-    ∙ sym (end_says a.table.bytes.now a.s.number (as_session x) known.says ∙ if_page_lem (as_session x) known.is_open c.if-not-x.false ∙ rw (sym c.all_read.ensures, c.if-not-all_read.false, raised))
+    ∙ sym (end_says a.table.bytes.now a.s.number (as_session x) known.says ∙ if_page_lem (as_session x) known.is_open c.if-not-x.false ∙ rw (sym (c.all_read.ensures x.marks.page.keys), c.if-not-all_read.false, raised))

@@ -13,9 +13,9 @@ returns-in-Some-short-clause-err c =
     let site = c.in-Some-short.site in
     elim c.match-spared.branch [
       | in-None w ↦
-          let k = MatchOption-at_some _ _ site (sym w.short-is ∙ c.in-Some-short.is) w.first_short-short.ensures in
+          let k = MatchOption-at_some _ _ site (sym w.short-is ∙ c.in-Some-short.is) w.first_short-short.ensures.known in
           rw w.in-None.is (k.0, ap (λ i. Reason.Wait i (as_vec c.args.needed i)) k.1)
       | in-Some w ↦
-          let k = MatchOption-at_some _ _ site (sym w.short-is ∙ c.in-Some-short.is) w.first_short_but-short.ensures in
+          let k = MatchOption-at_some _ _ site (sym w.short-is ∙ c.in-Some-short.is) w.first_short_but-short.ensures.known in
           rw w.in-Some.is (k.0, ap (λ i. Reason.Wait i (as_vec c.args.needed i)) k.1)
     ]
