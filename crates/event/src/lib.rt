@@ -3,14 +3,15 @@
 
 #![tactic(auto)]
 
-ghost use Rattle.std.specs.Prelude.{◌≡◌, true, ◌&&◌, IfOk, IfErr};
+ghost use Rattle.std.specs.Prelude.{◌≡◌, ℕ, ◌-◌, ◌<◌, T, true, false, ◌&&◌, get_or, IfOk, IfErr};
+ghost use Rattle.codec.specs.Le.{load};
 ghost use Rattle.codec.specs.Below.{all_below};
 ghost use Rattle.protocol.specs.Needs.{ranges};
 ghost use Rattle.protocol.specs.Meaning.{setting_of};
-ghost use Rattle.event.specs.Fields.{unused_zero};
+ghost use Rattle.event.specs.Fields.{uses, unused_zero};
 ghost use Rattle.event.specs.Event.{code_lawful, event_of, met};
 ghost use Rattle.event.specs.Meaning.{fields_in, as_event, Says, IsRefusal};
-ghost use Rattle.event.specs.Ranges.{field_lawful};
+ghost use Rattle.event.specs.Ranges.{in_range, field_lawful};
 
 use codec::Number;
 use protocol::Reason;
@@ -196,6 +197,7 @@ pub fn fields_lawful(e: &EventBytes, setting: Setting) -> bool
 // An event as its bytes say it, in an archive with this setting.
 pub fn read(e: &EventBytes, setting: Setting) -> Result<Event, Reason>
     ensures ok { IfOk result (λ v. (as_event v ≡ event_of e.now) × (code_lawful e.now ≡ true) × ((unused_zero e.now && met (ranges (setting_of setting) (event_of e.now))) ≡ true)) }
+    ensures used { IfOk result (λ _. (f : ℕ) → f < 10 → T (uses (load 1 e.now 0 - 1) f) → T (get_or (in_range (setting_of setting) (fields_in e.now)) f false)) }
     ensures err { IfErr result (λ w. IsRefusal (code_lawful e.now) (unused_zero e.now && met (ranges (setting_of setting) (event_of e.now))) w) }
 {
     let event = Event::try_from(load_fields(e))?;

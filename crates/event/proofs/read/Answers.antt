@@ -6,7 +6,7 @@ use Rattle.std.proofs.lemmas.Result.{err_from_is_err_and}
 use Rattle.event.specs.declared.Fields.{Fields}
 use Rattle.event.specs.Event.{code_lawful}
 use Rattle.event.specs.Meaning.{event_from, known, fields_in, IsRefusal}
-use Rattle.event.proofs.Meaning.{event_is}
+use Rattle.event.proofs.Meaning.{event_is, used_in_range_lem}
 use Rattle.event.proofs.read.Goals as goal
 
 code_known : (e : List ℕ) (x : Fields) → x ≡ fields_in e → code_lawful e ≡ known x
@@ -32,3 +32,10 @@ returns-clause-ok c =
     let code = code_known c.args.e.now _ c.load_fields.ensures ∙ c.in_ok-event.ensures.0 in
     let fields = sym c.fields_lawful.ensures ∙ c.if-not-fields_lawful.false in
     (c.in_ok-event.ensures.1 ∙ sym (event_is _ c.args.e.now _ c.load_fields.ensures (code, fields) _ refl), code, fields)
+
+pub returns-clause-used : goal.returns-clause-used
+unfolding fields_in
+returns-clause-used c f b u =
+    let code = code_known c.args.e.now _ c.load_fields.ensures ∙ c.in_ok-event.ensures.0 in
+    let fields = sym c.fields_lawful.ensures ∙ c.if-not-fields_lawful.false in
+    used_in_range_lem _ c.args.e.now (fields_in c.args.e.now) refl (code, fields) _ refl f b u
