@@ -9,6 +9,6 @@ abbrev pub as_vec : Vector → Vec
 as_vec v = entry v.entries
 
 -- the width where it names none
-abbrev pub site_of : Code.Option ℕ → ℕ
-site_of Code.Option.None = width
-site_of (Code.Option.Some i) = i
+abbrev pub site_named : Code.Option ℕ → ℕ
+site_named Code.Option.None = width
+site_named (Code.Option.Some i) = i
